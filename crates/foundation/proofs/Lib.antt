@@ -1,0 +1,4 @@
+-- Theorems about the definitions.
+pub mod Containment
+pub mod Open
+pub mod Marked

@@ -1,0 +1,112 @@
+-- What a run answers and leaves in the lent stores.
+use mathlib.Core.Bool.{Bool, true, cond, not, _&&_, _||_}
+use mathlib.Core.List.{List, [], _∷_, map}
+use Prim.Native.Nat.{ℕ, zero, suc, _+_}
+use lib.Dec.{eqb, ltb, leb}
+use lib.Ieee.{Float}
+use lib.ListN.{length, getD}
+use Rattle.lists.specs.Functions.{all}
+use Rattle.lists.specs.Sets.{indexOf, upto}
+use Rattle.foundation.specs.Answer.{Answer, refused, granted, refuseIf, andThen, resultStore}
+use Rattle.foundation.specs.Pattern.{Lent, Pattern, patternOf, rowOf}
+use Rattle.foundation.specs.Plan.{Planning, Side, lower, upper}
+use Rattle.foundation.specs.Slots.{slotsOf}
+use Rattle.foundation.specs.Numbers.{plusZero, finite}
+use Rattle.foundation.specs.Square.{Square}
+use Rattle.foundation.specs.Reference.{Choice, largest, listed, Extent, whole, cut, Going, Course, going, stopped, numberOf, reference}
+use Rattle.foundation.specs.Shown.{shown, shownDiagonal}
+use Rattle.foundation.specs.PlanCall.{Sizes, LentPlan, held}
+
+-- the lent values and right side, and the lengths of the lent result stores
+pub record Lending : Type 0 where
+  pub values : List Float
+  pub right : List Float
+  pub solution : ℕ
+  pub pivots : ℕ
+  pub diagonal : ℕ
+  pub lowerSlots : ℕ
+  pub upperSlots : ℕ
+
+-- Table, 10: "values are not as many as entries, right side, solution, pivot rows or diagonal not n, or slots fewer than planned".
+unfoldable pub lendingFits : Lent → Planning → Lending → Bool
+lendingFits p s w =
+    eqb (length (w .values)) (length (p .columns))
+    && (eqb (length (w .right)) (p .n)
+    && (eqb (w .solution) (p .n)
+    && (eqb (w .pivots) (p .n)
+    && (eqb (w .diagonal) (p .n) && (leb (slotsOf s lower (p .n)) (w .lowerSlots) && leb (slotsOf s upper (p .n)) (w .upperSlots))))))
+
+-- Table, 11: "a value or right side is not finite".
+unfoldable pub allFinite : Lending → Bool
+allFinite w = all finite (w .values) && all finite (w .right)
+
+-- Table, 12: "p_k is below k or above n": the rows that a list names from step k on.
+unfoldable pub rowsInRange : ℕ → ℕ → List ℕ → Bool
+rowsInRange height k [] = true
+rowsInRange height k (p ∷ ps) = (leb k p && leb p height) && rowsInRange height (suc k) ps
+
+unfoldable pub choiceFits : Pattern → Choice → Bool
+choiceFits p largest = true
+choiceFits p (listed rows) = eqb (length rows) (p .n) && rowsInRange (p .height) 1 rows
+
+unfoldable pub extentFits : Pattern → Extent → Bool
+extentFits p whole = true
+extentFits p (cut s) = leb s (p .n)
+
+-- Table, 12: "the row list is not n long, p_k is below k or above n, or s is above n".
+unfoldable pub orderFits : Pattern → Choice → Extent → Bool
+orderFits p choice extent = choiceFits p choice && extentFits p extent
+
+-- ---- the numbers by place: the values lie as the columns do, row after row
+
+unfoldable pub valueAt : Lent → List Float → Square Float
+valueAt p values zero j = plusZero
+valueAt p values (suc i) j = getD values (getD (p .starts) i 0 + indexOf j (rowOf p (suc i))) plusZero
+
+unfoldable pub rightAt : List Float → ℕ → Float
+rightAt right zero = plusZero
+rightAt right (suc i) = getD right i plusZero
+
+-- ---- the run
+
+-- the plan that a run went by, and where it ended
+pub record Ran : Type 0 where
+  pub plan : Planning
+  pub end : Going
+
+-- Document 01, "Free elimination": "Finished: (..). Stopped: 13 or 14 with its step."
+unfoldable pub courseAnswer : Planning → Course → Answer Ran
+courseAnswer s (going g) = granted (record { plan = s; end = g })
+courseAnswer s (stopped reason k) = refused (numberOf reason) k
+
+-- 10, 11, 12, then 13 and 14 "as the run meets them", on a plan that is known to be the pattern's
+unfoldable pub ranWith : Lent → Choice → Extent → Lending → Planning → Answer Ran
+ranWith p choice extent w s =
+    refuseIf (not (lendingFits p s w)) 10
+    (refuseIf (not (allFinite w)) 11
+    (refuseIf (not (orderFits (patternOf p) choice extent)) 12
+    (courseAnswer s (reference choice extent (patternOf p) (valueAt p (w .values)) (rightAt (w .right))))))
+
+-- a run on a lent plan: 1 to 6, 9, then the rest
+unfoldable pub ran : ℕ → Lent → Sizes → LentPlan → Choice → Extent → Lending → Answer Ran
+ran most p sizes q choice extent w = andThen (held most p sizes q) (ranWith p choice extent w)
+
+-- the answer: "finished with its updates or stopped with its number and step"
+unfoldable pub runAnswer : Answer Ran → Answer ℕ
+runAnswer answer = andThen answer (λ r. granted (r .end .updates))
+
+-- ---- what the result stores hold afterwards, `room` being a store's length
+
+unfoldable pub slotsAfter : Side → ℕ → ℕ → Answer Ran → List Float
+slotsAfter side n room answer = resultStore plusZero room (λ r. shown (r .plan) side n (r .end .square)) answer
+
+unfoldable pub diagonalAfter : ℕ → ℕ → Answer Ran → List Float
+diagonalAfter n room answer = resultStore plusZero room (λ r. shownDiagonal n (r .end .square)) answer
+
+-- "the solution store has the right side (whole: the solution)"
+unfoldable pub solutionAfter : ℕ → ℕ → Answer Ran → List Float
+solutionAfter n room answer = resultStore plusZero room (λ r. map (r .end .right) (upto n)) answer
+
+-- "pivot rows are p_k up to the last step done and 0 after it"
+unfoldable pub pivotsAfter : ℕ → Answer Ran → List ℕ
+pivotsAfter room answer = resultStore 0 room (λ r. r .end .pivots) answer

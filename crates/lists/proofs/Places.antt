@@ -1,0 +1,161 @@
+-- What stands at a place: of a function changed at one place, of a run, of lists one behind the other, of a filled list.
+use mathlib.Core.Path.{_≡_, refl, sym, ap, _∙_}
+use mathlib.Core.Logic.{⊎-elim}
+use mathlib.Core.Bool.{true, false}
+use mathlib.Core.List.{List, [], _∷_, _++_, map, append-nil, append-assoc}
+use Prim.Native.Nat.{ℕ, zero, suc, _+_, _-_, _≤_, _<_, suc-le-suc}
+use native.Mathlib.Nat.{add-zero, add-suc, suc-add, sub-self, sub-zero}
+use native.Mathlib.Numerals.{one-add}
+use native.Mathlib.Omega.{arith}
+use lib.Dec.{eqb}
+use lib.ListN.{length, getD, take, replicate, length-append, length-map, length-replicate, List·getD-append}
+use lib.Seq.{take-append-seam, getD-append-add}
+use borrow.Author.Tests.{eqb-true, eqb-false, eq-eqb, ne-eqb}
+use Rattle.lists.specs.Functions.{update, total, chain, padded}
+use Rattle.lists.specs.Sets.{member, Ascending, run, upto, indexOf}
+use Rattle.lists.proofs.Members.{by-test, member-head, member-tail, member-cases, not-member-nil}
+use Rattle.lists.proofs.Order.{member-above}
+
+module _ {ℓ} {A : Type ℓ} where
+  -- a function changed at a place has the new value there
+  pub update-same : (f : ℕ → A) (k : ℕ) (v : A) → update f k v k ≡ v
+  unfolding update
+  update-same f k v = rw (eq-eqb k k refl)
+
+  -- a function changed at a place is the same at the others
+  pub update-other : (f : ℕ → A) (k : ℕ) (v : A) (j : ℕ) → (j ≡ k → ⊥) → update f k v j ≡ f j
+  unfolding update
+  update-other f k v j n = rw (ne-eqb j k n)
+
+  -- the same, where a test tells that the place is another
+  pub update-untouched : (f : ℕ → A) (k : ℕ) (v : A) (j : ℕ) → eqb j k ≡ false → update f k v j ≡ f j
+  unfolding update
+  update-untouched f k v j e = rw e
+
+-- a run goes on by the next number behind it
+pub run-snoc : (a d : ℕ) → run a (suc d) ≡ run a d ++ (a + d) ∷ []
+unfolding run
+run-snoc a zero = rw add-zero
+run-snoc a (suc d) = rw (add-suc, ← suc-add) (ap (λ (zs : List ℕ). a ∷ zs) (run-snoc (suc a) d))
+
+-- a run is as long as it is said to be
+pub length-run : (a d : ℕ) → length (run a d) ≡ d
+unfolding run
+length-run a zero = refl
+length-run a (suc d) = ap suc (length-run (suc a) d)
+
+-- the number at each place of a run
+pub getD-run : (a d i z : ℕ) → i < d → getD (run a d) i z ≡ a + i
+unfolding run
+getD-run a zero i z l = absurd (omega arith)
+getD-run a (suc d) zero z l = sym (add-zero a)
+getD-run a (suc d) (suc i) z l = getD-run (suc a) d i z (omega arith) ∙ omega arith
+
+-- the first numbers of a run are a run
+pub take-run : (a d t : ℕ) → t ≤ d → take t (run a d) ≡ run a t
+unfolding run
+take-run a d zero l = refl
+take-run a zero (suc t) l = absurd (omega arith)
+take-run a (suc d) (suc t) l = ap (λ (zs : List ℕ). a ∷ zs) (take-run (suc a) d t (omega arith))
+
+-- the numbers 1 to n + 1 are those to n and one more
+pub upto-snoc : (n : ℕ) → upto (suc n) ≡ upto n ++ suc n ∷ []
+unfolding upto
+upto-snoc n = run-snoc 1 n ∙ rw (one-add n)
+
+-- the numbers 1 to n are n
+pub length-upto : (n : ℕ) → length (upto n) ≡ n
+unfolding upto
+length-upto n = length-run 1 n
+
+module _ {ℓ} {A : Type ℓ} where
+  -- a value for each number of a run: as many as the run is long
+  pub length-map-run : (f : ℕ → A) (a d : ℕ) → length (map f (run a d)) ≡ d
+  length-map-run f a d = length-map (run a d) f ∙ length-run a d
+
+  -- a value for each number of a run: the one at each place
+  pub getD-map-run : (f : ℕ → A) (a d i : ℕ) (z : A) → i < d → getD (map f (run a d)) i z ≡ f (a + i)
+  unfolding run
+  getD-map-run f a zero i z l = absurd (omega arith)
+  getD-map-run f a (suc d) zero z l = rw add-zero
+  getD-map-run f a (suc d) (suc i) z l = getD-map-run f (suc a) d i z (omega arith) ∙ rw (suc-add, add-suc)
+
+-- the place of a member is one of the list's
+pub index-below : (x : ℕ) (xs : List ℕ) → member x xs ≡ true → indexOf x xs < length xs
+unfolding indexOf
+index-below x [] e = absurd (not-member-nil x e)
+index-below x (y ∷ ys) e = by-test (eqb x y)
+    (λ q. rw q (omega arith))
+    (λ q. rw q (suc-le-suc (⊎-elim (λ p. absurd (eqb-false x y q p)) (index-below x ys) (member-cases x y ys e))))
+
+-- a member stands at its place
+pub index-at : (x : ℕ) (xs : List ℕ) → member x xs ≡ true → getD xs (indexOf x xs) 0 ≡ x
+unfolding indexOf
+index-at x [] e = absurd (not-member-nil x e)
+index-at x (y ∷ ys) e = by-test (eqb x y)
+    (λ q. rw q (sym (eqb-true x y q)))
+    (λ q. rw q (⊎-elim (λ p. absurd (eqb-false x y q p)) (index-at x ys) (member-cases x y ys e)))
+
+-- what stands at a place is a member
+pub member-at : (i : ℕ) (xs : List ℕ) → i < length xs → member (getD xs i 0) xs ≡ true
+member-at i [] l = absurd (omega arith)
+member-at zero (y ∷ ys) l = member-head y ys
+member-at (suc i) (y ∷ ys) l = member-tail (getD ys i 0) y ys (member-at i ys (omega arith))
+
+-- in an ascending list the place of what stands at a place is that place
+pub at-index : (a i : ℕ) (xs : List ℕ) → Ascending a xs → i < length xs → indexOf (getD xs i 0) xs ≡ i
+unfolding indexOf Ascending
+at-index a i [] h l = absurd (omega arith)
+at-index a zero (y ∷ ys) h l = rw (eq-eqb y y refl)
+at-index a (suc i) (y ∷ ys) h l =
+    let k : i < length ys = omega arith in
+    let up : y < getD ys i 0 = member-above (getD ys i 0) a y ys h (member-at i ys k) in
+    let other : eqb (getD ys i 0) y ≡ false = ne-eqb (getD ys i 0) y (omega arith) in
+    rw other (ap suc (at-index (suc y) i ys (h .1) k))
+
+module _ {ℓ} {A : Type ℓ} where
+  -- the sum over two lists one behind the other is both sums
+  pub total-append : (f : A → ℕ) (xs ys : List A) → total f (xs ++ ys) ≡ total f xs + total f ys
+  unfolding total
+  total-append f [] ys = omega arith
+  total-append f (x ∷ xs) ys = rw (total-append f xs ys) (omega arith)
+
+module _ {ℓ κ} {A : Type ℓ} {B : Type κ} where
+  -- the lists of two lists' members are those of both, one behind the other
+  pub chain-append : (f : A → List B) (xs ys : List A) → chain f (xs ++ ys) ≡ chain f xs ++ chain f ys
+  unfolding chain
+  chain-append f [] ys = refl
+  chain-append f (x ∷ xs) ys = rw (chain-append f xs ys) (sym (append-assoc (f x) (chain f xs) (chain f ys)))
+
+  -- lists one behind the other are as long as all together
+  pub length-chain : (f : A → List B) (xs : List A) → length (chain f xs) ≡ total (λ x. length (f x)) xs
+  unfolding chain total
+  length-chain f [] = refl
+  length-chain f (x ∷ xs) = rw (length-append, length-chain f xs)
+
+  -- what stands at each place of the list that belongs to one member
+  pub getD-chain : (f : A → List B) (p : List A) (x : A) (q : List A) (i : ℕ) (z : B) → i < length (f x)
+      → getD (chain f (p ++ x ∷ q)) (length (chain f p) + i) z ≡ getD (f x) i z
+  unfolding chain
+  getD-chain f p x q i z l = rw (chain-append f p (x ∷ q)) (getD-append-add (chain f p) (f x ++ chain f q) i z ∙ List·getD-append (f x) (chain f q) z i l)
+
+module _ {ℓ} {A : Type ℓ} where
+  -- a filled list is as long as there is room
+  pub length-padded : (z : A) (room : ℕ) (xs : List A) → length xs ≤ room → length (padded z room xs) ≡ room
+  unfolding padded
+  length-padded z room xs l = rw (length-append, length-replicate) (omega arith)
+
+  -- a filled list begins with the list
+  pub padded-take : (z : A) (room : ℕ) (xs : List A) → take (length xs) (padded z room xs) ≡ xs
+  unfolding padded
+  padded-take z room xs = take-append-seam xs (replicate (room - length xs) z)
+
+  -- where there is no more room, nothing is filled up
+  pub padded-full : (z : A) (xs : List A) → padded z (length xs) xs ≡ xs
+  unfolding padded
+  padded-full z xs = rw sub-self (append-nil xs)
+
+  -- no list filled up is the one value as often as there is room
+  pub padded-nil : (z : A) (room : ℕ) → padded z room [] ≡ replicate room z
+  unfolding padded
+  padded-nil z room = rw sub-zero
