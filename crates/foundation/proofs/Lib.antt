@@ -1,4 +1,19 @@
--- Theorems about the definitions.
+-- Theorems about the definitions; `Theorems` has those that a release rests on.
 pub mod Containment
+pub mod Passing
+pub mod Steps
+pub mod Gathered
+pub mod Listed
+pub mod ReadsBound
+pub mod PlanFacts
+pub mod Opening
+pub mod Starts
+pub mod Room
+pub mod Stores
+pub mod FreeSteps
+pub mod FloatSteps
+pub mod FloatRun
+pub mod LaidBack
+pub mod Theorems
 pub mod Open
 pub mod Marked

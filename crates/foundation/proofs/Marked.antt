@@ -1,11 +1,11 @@
 -- The marked cases of document 01 hold of the definitions, by computation.
 use mathlib.Core.Path.{_≡_, refl}
-use Rattle.foundation.specs.Marked.{fourFields, fourValues, fourRight, lending, fourRun, oneRun, twoRun, told, showUpdates, showPivots, showSlots, showUpper, showRight, showPlanned, bits, case, Holds, fourPlan, noSizes, marked, also, bytes, entryBytes, endBytes, fourJob, fourListing}
+use Rattle.foundation.specs.Marked.{fourFields, fourValues, fourRight, lending, fourRun, oneRun, twoRun, told, showUpdates, showPivots, showSlots, showUpper, showRight, showPlanned, bits, sameLists, case, matches, Holds, fourPlan, noSizes, marked, also, bytes, entryBytes, endBytes, fourJob, fourListing}
 use Rattle.foundation.specs.Printing.{printed}
 use Rattle.foundation.proofs.Open.{runs, prints}
 
 unfoldable pub cases : Unit {0}
-unfolding runs fourFields fourValues fourRight lending fourRun oneRun twoRun told showUpdates showPivots showSlots showUpper showRight showPlanned bits case fourPlan noSizes
+unfolding runs fourFields fourValues fourRight lending fourRun oneRun twoRun told showUpdates showPivots showSlots showUpper showRight showPlanned bits sameLists case matches fourPlan noSizes
 cases = tt
 
 -- M1 to M10

@@ -10,7 +10,7 @@ use Rattle.foundation.specs.Slots.{slotIn, hasSlot, slotsOf, slotStarts,
 use Rattle.foundation.specs.PlanCall.{subscripts, countsOf, sizesFit, planned, planAnswer}
 use Rattle.foundation.specs.Numbers.{plusZero, isZero, finite, magnitude, mayPivot, product, difference, quotient, bitsOf, ofPattern}
 use Rattle.foundation.specs.Square.{swap, placed, exchanged}
-use Rattle.foundation.specs.Reference.{stepsOf, better, best, pivotRow, multiplier, reduced, eliminated, exchangedRight, eliminatedRight, updatesAt, soundUpdate, soundPlace, soundRow, soundStep, numberOf, stepped, soundWith, stepWith, step, running, starting, substituted, solvedRow, back, ended, reference}
+use Rattle.foundation.specs.Reference.{stepsOf, better, best, pivotRow, multiplier, reduced, eliminated, exchangedRight, eliminatedRight, updatesAt, soundUpdate, soundPlace, soundRow, soundStep, numberOf, stepped, soundWith, stepWith, step, running, starting, substituted, solvedRow, back, solved, ended, reference}
 use Rattle.foundation.specs.Shown.{atSide, shown, shownDiagonal, slotRead, laid}
 use Rattle.foundation.specs.RunCall.{lendingFits, allFinite, rowsInRange, choiceFits, extentFits, orderFits, valueAt, rightAt, courseAnswer, ranWith, runAnswer}
 use Rattle.foundation.specs.Text.{ascii}
@@ -26,7 +26,7 @@ unfolding lists refuseIf andThen resultStore workStore lent column present rowOf
 plans = tt
 
 unfoldable pub runs : Unit {0}
-unfolding plans add sub mul div neg eq lt ofInt toBits plusZero isZero finite magnitude mayPivot product difference quotient bitsOf swap placed exchanged stepsOf better best pivotRow multiplier reduced eliminated exchangedRight eliminatedRight updatesAt soundUpdate soundPlace soundRow soundStep numberOf stepped soundWith stepWith step running starting substituted solvedRow back ended reference atSide shown shownDiagonal slotRead laid lendingFits allFinite rowsInRange choiceFits extentFits orderFits valueAt rightAt courseAnswer ranWith runAnswer
+unfolding plans add sub mul div neg eq lt ofInt toBits plusZero isZero finite magnitude mayPivot product difference quotient bitsOf swap placed exchanged stepsOf better best pivotRow multiplier reduced eliminated exchangedRight eliminatedRight updatesAt soundUpdate soundPlace soundRow soundStep numberOf stepped soundWith stepWith step running starting substituted solvedRow back solved ended reference atSide shown shownDiagonal slotRead laid lendingFits allFinite rowsInRange choiceFits extentFits orderFits valueAt rightAt courseAnswer ranWith runAnswer
 runs = tt
 
 unfoldable pub prints : Unit {0}

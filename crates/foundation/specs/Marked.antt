@@ -1,12 +1,13 @@
 -- The cases that document 01 marks M1 to M10, as one table, and others that are small enough to compute. Each row sets what the
 -- definitions yield beside what document 01 says.
+use mathlib.Core.Bool.{Bool, true, false, _&&_}
 use mathlib.Core.List.{List, [], _∷_, _++_, map}
 use mathlib.Core.Path.{_≡_}
 use Prim.Native.Nat.{ℕ, zero, suc, _/_, _%_}
 use lib.Ieee.{Float, binary64, ofInt, neg}
 use lib.IntN.{pos}
 use lib.ListN.{length}
-use Rattle.lists.specs.Functions.{chain}
+use Rattle.lists.specs.Functions.{all, same}
 use Rattle.lists.specs.Sets.{upto}
 use Rattle.foundation.specs.Answer.{Answer, refused, granted}
 use Rattle.foundation.specs.Pattern.{Lent, lent, patternOf, maxN}
@@ -16,7 +17,7 @@ use Rattle.foundation.specs.Numbers.{bitsOf}
 use Rattle.foundation.specs.Reference.{Choice, largest, listed, Extent, whole, cut}
 use Rattle.foundation.specs.Shown.{shown, shownDiagonal}
 use Rattle.foundation.specs.PlanCall.{Sizes, planned, subscripts}
-use Rattle.foundation.specs.RunCall.{Lending, Ran, ranWith, solutionAfter}
+use Rattle.foundation.specs.RunCall.{Lending, Ran, ranWith}
 use Rattle.foundation.specs.Text.{ascii}
 
 -- ---- the examples
@@ -96,6 +97,13 @@ bits ks = map (λ k. bitsOf (float k)) ks
 
 -- ---- the table
 
+-- whether two lists of lists are the same
+unfoldable pub sameLists : List (List ℕ) → List (List ℕ) → Bool
+sameLists [] [] = true
+sameLists [] (y ∷ ys) = false
+sameLists (x ∷ xs) [] = false
+sameLists (x ∷ xs) (y ∷ ys) = same x y && sameLists xs ys
+
 pub record Case : Type 0 where
   pub found : List (List ℕ)
   pub expected : List (List ℕ)
@@ -103,9 +111,13 @@ pub record Case : Type 0 where
 unfoldable pub case : List (List ℕ) → List (List ℕ) → Case
 case found expected = record { found = found; expected = expected }
 
+-- whether what was found is what should be
+unfoldable pub matches : Case → Bool
+matches c = sameLists (c .found) (c .expected)
+
 -- every row of a table shows what it should: one proposition
 unfoldable pub Holds : List Case → Type 0
-Holds table = map (λ c. c .found) table ≡ map (λ c. c .expected) table
+Holds table = all matches table ≡ true
 
 unfoldable pub fourPlan : Planning
 fourPlan = plan (patternOf fourFields)
@@ -161,9 +173,10 @@ also =
     ∷ case (told (showPlanned 4) (planned maxN fourFields noSizes 2 2)) ((2 ∷ 2 ∷ []) ∷ [])
     ∷ case (told (showPlanned 4) (planned maxN fourFields noSizes 1 2)) ((7 ∷ 2 ∷ []) ∷ [])
     ∷ case (told (showPlanned 4) (planned maxN fourFields noSizes 2 1)) ((8 ∷ 2 ∷ []) ∷ [])
-    -- 5 in row 2 goes before 3 in row 3; 3 before 4 at an entry
+    -- 5 in row 2 goes before 3 in row 3; 3 before 4 at an entry; 5 only at the row's end
     ∷ case (told (showPlanned 3) (planned maxN (lent 3 (0 ∷ 1 ∷ 2 ∷ 3 ∷ []) (1 ∷ 1 ∷ 4 ∷ [])) noSizes 2 2)) ((5 ∷ 0 ∷ []) ∷ [])
     ∷ case (told (showPlanned 2) (planned maxN (lent 2 (0 ∷ 2 ∷ 3 ∷ []) (1 ∷ 0 ∷ 2 ∷ [])) noSizes 2 2)) ((3 ∷ 0 ∷ []) ∷ [])
+    ∷ case (told (showPlanned 2) (planned maxN (lent 2 (0 ∷ 1 ∷ 2 ∷ []) (3 ∷ 2 ∷ [])) noSizes 2 2)) ((3 ∷ 0 ∷ []) ∷ [])
     -- a cut to n steps is no whole run: the solution store has the right side, not the solution
     ∷ case (told (showRight 4) (fourRun largest (cut 4))) ((bits (8 ∷ 7 ∷ []) ++ map (λ k. bitsOf (neg (float k))) (1 ∷ 1 ∷ [])) ∷ [])
     ∷ case (told (showRight 4) (fourRun largest whole)) (bits (1 ∷ 1 ∷ 1 ∷ 1 ∷ []) ∷ [])
@@ -173,6 +186,9 @@ also =
     -- "Multiplying by zeros of the square: a place of -0 can turn into +0": place (2,2) keeps its -0 beside a pivot row's -0
     ∷ case (told (showSlots 2) (twoRun (cut 1) (float 1 ∷ neg (float 0) ∷ float 1 ∷ neg (float 0) ∷ [])))
     (bits (1 ∷ []) ∷ (bitsOf (neg (float 0)) ∷ []) ∷ (bitsOf (float 1) ∷ bitsOf (neg (float 0)) ∷ []) ∷ [])
+    -- a zero entry is no multiplier that updates: place (2,2) keeps its -0 beside a zero entry (2,1) and a pivot row's -1
+    ∷ case (told (showSlots 2) (twoRun (cut 1) (float 1 ∷ neg (float 1) ∷ float 0 ∷ neg (float 0) ∷ [])))
+    (bits (0 ∷ []) ∷ (bitsOf (neg (float 1)) ∷ []) ∷ (bitsOf (float 1) ∷ bitsOf (neg (float 0)) ∷ []) ∷ [])
     -- 12 goes before 13: a cut to 5 of 4 steps
     ∷ case (told showUpdates (fourRun (listed (2 ∷ 2 ∷ 3 ∷ 4 ∷ [])) (cut 5))) ((12 ∷ 0 ∷ []) ∷ [])
     ∷ []

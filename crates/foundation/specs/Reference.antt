@@ -188,10 +188,14 @@ back n (suc i) g =
     let later = back n i next in
     cond (c .sound) later (stopped notFinite (suc i))
 
--- a cut run ends with its steps; a whole one is solved backwards
+-- back substitution of a run that came through its steps
+unfoldable pub solved : ℕ → Course → Course
+solved n (going g) = back n n g
+solved n (stopped reason at) = stopped reason at
+
+-- "A run may be cut to its first s steps, without back substitution": a whole run is solved, a cut one, to n steps too, is not.
 unfoldable pub ended : Extent → ℕ → Course → Course
-ended whole n (going g) = back n n g
-ended whole n (stopped reason at) = stopped reason at
+ended whole n c = solved n c
 ended (cut s) n c = c
 
 -- The reference: "by largest magnitude or by a list; whole, or cut".
