@@ -1,4 +1,5 @@
--- The run of the reference, step after step: what it has done where it is still going, and that it stays in the slots of lists that are closed.
+-- The run of the reference, step after step: what it has done where it is still going, that it stays in the slots of lists that are closed,
+-- and that back substitution changes the right side alone.
 use mathlib.Core.Bool.{true, false, not, false≢true}
 use mathlib.Core.List.{List, [], _∷_, _++_}
 use mathlib.Core.Logic.{_⊎_, inl, inr}
@@ -6,7 +7,6 @@ use mathlib.Core.Path.{_≡_, refl, sym, ap, subst, _∙_}
 use Prim.Native.Nat.{ℕ, zero, suc, _+_, _≤_, _<_}
 use native.Mathlib.Decide.{decLt}
 use native.Mathlib.Omega.{arith}
-use lib.Dec.{leb}
 use lib.Ieee.{Float}
 use lib.ListN.{length, getD, length-append, List·getD-append}
 use lib.Seq.{getD-append-add}
@@ -18,7 +18,7 @@ use Rattle.foundation.specs.Facts.{Plannable, PlanFacts}
 use Rattle.foundation.specs.Numbers.{plusZero, mayPivot}
 use Rattle.foundation.specs.Pattern.{Lent, Pattern, present, patternOf, patternFault}
 use Rattle.foundation.specs.Plan.{plan}
-use Rattle.foundation.specs.Reference.{Choice, pivotRow, notFinite, Going, Course, going, stopped, stepped, soundWith, stepWith, step, running, starting}
+use Rattle.foundation.specs.Reference.{Choice, Extent, whole, cut, stepsOf, pivotRow, notFinite, Going, Course, going, stopped, stepped, soundWith, stepWith, step, running, starting, solvedRow, back, solved, ended, reference}
 use Rattle.foundation.specs.RunCall.{choiceFits, extentFits, orderFits}
 use Rattle.foundation.specs.Slots.{slotIn, hasSlot}
 use Rattle.foundation.specs.Square.{Square, placed}
@@ -149,12 +149,65 @@ module _ (p : Pattern) (choice : Choice) (fits : choiceFits p choice ≡ true) (
         (λ z. plus-zero-is ((g .square) i j) z)
         (λ z. absurd (false≢true (sym none ∙ contained closed (held-running s g h e) i j (ap not z))))
 
+-- ---- back substitution
+
+-- The parts of a run that back substitution leaves: the square, the pivot rows and the updates.
+pub record Alike (g h : Going) : Type 0 where
+  pub square : g .square ≡ h .square
+  pub pivots : g .pivots ≡ h .pivots
+  pub updates : g .updates ≡ h .updates
+
+-- a run is alike to itself
+alike-self : (g : Going) → Alike g g
+alike-self g = record { square = refl; pivots = refl; updates = refl }
+
+-- Back substitution that goes on leaves them.
+pub back-keeps : (n i : ℕ) (g h : Going) → back n i g ≡ going h → Alike h g
+unfolding back
+back-keeps n zero g h e = let same : g ≡ h = cc in rw (← same) (alike-self g)
+back-keeps n (suc i) g h e =
+    by-test (solvedRow n (g .square) (g .right) (suc i) .sound)
+    (λ t.
+    let rest : Alike h _ = back-keeps n i _ h (rw t at e) in
+    record { square = rest .square; pivots = rest .pivots; updates = rest .updates })
+    (λ t.
+    let halted : stopped notFinite (suc i) ≡ going h = rw t at e in
+    let z : _≡_ {A = ℕ} 0 1 = cc in absurd (omega arith))
+
+-- What a run came from by back substitution: a run that was going, alike.
+pub solved-keeps : (n : ℕ) (c : Course) (h : Going) → solved n c ≡ going h → (g : Going) × (c ≡ going g) × Alike h g
+unfolding solved
+solved-keeps n (going g) h e = (g, refl, back-keeps n n g h e)
+solved-keeps n (stopped reason at) h e = let z : _≡_ {A = ℕ} 0 1 = cc in absurd (omega arith)
+
+-- Likewise by its end, whole or cut.
+pub ended-keeps : (extent : Extent) (n : ℕ) (c : Course) (h : Going) → ended extent n c ≡ going h → (g : Going) × (c ≡ going g) × Alike h g
+unfolding ended
+ended-keeps whole n c h e = solved-keeps n c h e
+ended-keeps (cut s) n c h e = (h, e, alike-self h)
+
+-- The reference, whole or cut, is alike to the run after its steps.
+pub reference-keeps :
+    (choice : Choice) (extent : Extent) (p : Pattern) (values : Square Float) (right : ℕ → Float) (h : Going) → reference choice extent p values right ≡ going h
+    → (g : Going) × (runTo p choice values right (stepsOf extent (p .n)) ≡ going g) × Alike h g
+unfolding reference
+reference-keeps choice extent p values right h e = ended-keeps extent (p .n) (runTo p choice values right (stepsOf extent (p .n))) h e
+
+-- An extent that fits has at most n steps.
+pub steps-fit : (p : Pattern) (extent : Extent) → extentFits p extent ≡ true → stepsOf extent (p .n) ≤ p .n
+unfolding extentFits stepsOf
+steps-fit p whole e = omega arith
+steps-fit p (cut s) e = leb-true _ _ e
+
 -- The reference stays in the slots, if what passes can be planned and the plan of such a pattern is as PlanFacts says.
 pub zero-outside-from :
     ((p : Pattern) → Plannable p → PlanFacts p (plan p)) → ((most : ℕ) (p : Lent) → patternFault most p ≡ 0 → Plannable (patternOf p)) → ZeroOutside
-unfolding ZeroOutside hasSlot orderFits extentFits patternOf
-zero-outside-from facts passes most p ok choice s order values right g e =
+unfolding ZeroOutside hasSlot orderFits
+zero-outside-from facts passes most p ok choice extent order values right g e i j none =
     let able : Plannable (patternOf p) = passes most p ok in
-    let fits : choiceFits (patternOf p) choice ≡ true = and-left (choiceFits (patternOf p) choice) (leb s (p .n)) order in
-    let within : s ≤ p .n = leb-true _ _ (and-right (choiceFits (patternOf p) choice) (leb s (p .n)) order) in
-    run-zero-outside (patternOf p) choice fits values right (facts (patternOf p) able .closed) (columns-from-one (patternOf p) able) s g within e
+    let fits : choiceFits (patternOf p) choice ≡ true = and-left (choiceFits (patternOf p) choice) (extentFits (patternOf p) extent) order in
+    let within : stepsOf extent (patternOf p .n) ≤ patternOf p .n =
+    steps-fit (patternOf p) extent (and-right (choiceFits (patternOf p) choice) (extentFits (patternOf p) extent) order)
+    in
+    let (was, from, same) = reference-keeps choice extent (patternOf p) values right g e in
+    rw (same .square) (run-zero-outside (patternOf p) choice fits values right (facts (patternOf p) able .closed) (columns-from-one (patternOf p) able) (stepsOf extent (patternOf p .n)) was within from i j none)

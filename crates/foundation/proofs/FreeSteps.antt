@@ -1,9 +1,10 @@
--- The free elimination stays in the slots of lists that are closed: each step that is taken is a step on places, whatever numbers it brings.
+-- The free elimination stays in range and in the slots of lists that are closed: each step that is taken is a step on places, whatever
+-- numbers it brings. And it leaves the columns before its k.
 use mathlib.Core.Bool.{Bool, true, false, not, _&&_, false≢true}
 use mathlib.Core.List.{List, [], _∷_}
 use mathlib.Core.Logic.{_⊎_, inl, inr}
 use mathlib.Core.Path.{_≡_, refl, sym, ap, _∙_}
-use Prim.Native.Nat.{ℕ, _≤_, _<_}
+use Prim.Native.Nat.{ℕ, suc, _≤_, _<_}
 use native.Mathlib.Decide.{decLt}
 use native.Mathlib.Omega.{arith}
 use lib.Dec.{eqb, ltb, leb}
@@ -13,7 +14,7 @@ use Rattle.lists.specs.Sets.{member}
 use Rattle.lists.proofs.Members.{by-test, and-left, and-right}
 use Rattle.lists.proofs.Order.{member-low}
 use Rattle.foundation.specs.Closed.{Closed, Places, Involved, StepOn}
-use Rattle.foundation.specs.Claims.{SlotsSuffice}
+use Rattle.foundation.specs.Claims.{SlotsSuffice, MultipliersStay}
 use Rattle.foundation.specs.Facts.{Plannable, PlanFacts}
 use Rattle.foundation.specs.Free.{FreeStep, FreeState, freeStart, taken, replaced, freeStep, freeRun}
 use Rattle.foundation.specs.Pattern.{Lent, Pattern, present, patternOf, patternFault}
@@ -21,6 +22,7 @@ use Rattle.foundation.specs.Plan.{plan}
 use Rattle.foundation.specs.Slots.{slotIn, hasSlot}
 use Rattle.foundation.specs.Square.{Square, swap, placed, exchanged}
 use Rattle.foundation.proofs.Containment.{Held, held-at-start, held-after-step, contained}
+use Rattle.foundation.proofs.Inside.{Inside, inside-after-step}
 
 -- ---- the exchange of two rows
 
@@ -184,68 +186,129 @@ module _ {ℓ} {A : Type ℓ} (isZero : A → Bool) where
       and-none true = refl
       and-none false = refl
 
-  module _ {p : Pattern} {L U : ℕ → List ℕ} (closed : Closed p L U) where
-    abbrev Holds : FreeState A → Type 0
-    Holds s = (1 ≤ s .k) × Held p L U (s .k) (marked isZero (s .square))
-
-    -- A step keeps the invariant: taken, it is a step on places; refused, it changes nothing.
-    held-free-step : (s : FreeState A) (step : FreeStep A) → Holds s → Holds (freeStep p isZero s step)
-    unfolding freeStep taken
-    held-free-step s step h =
-        by-test (taken p isZero s step) (λ e. rw e (omega arith, held-after-step closed (s .k) (h .0) (h .1) (moved e))) (λ e. rw e h)
-      where
-        moved :
-            taken p isZero s step ≡ true
-            → StepOn (s .k) (marked isZero (s .square)) (marked isZero (replaced isZero (s .k) step (exchanged (s .k) (step .row) (s .square))))
-        moved e =
-            let rest : (leb (s .k) (step .row) && leb (step .row) (p .height)) && not (isZero ((s .square) (step .row) (s .k))) ≡ true =
-            and-right (leb (s .k) (p .n)) ((leb (s .k) (step .row) && leb (step .row) (p .height)) && not (isZero ((s .square) (step .row) (s .k)))) e
-            in
-            let rows : leb (s .k) (step .row) && leb (step .row) (p .height) ≡ true =
-            and-left (leb (s .k) (step .row) && leb (step .row) (p .height)) (not (isZero ((s .square) (step .row) (s .k)))) rest
-            in
-            step-on isZero (s .k) (step .row) (s .square)
+  -- A step that is taken has its k in the columns and in the rows, and is a step on places.
+  pub taken-on :
+      (p : Pattern) (s : FreeState A) (step : FreeStep A) → taken p isZero s step ≡ true
+      → (s .k ≤ p .n)
+      × (s .k ≤ p .height)
+      × StepOn (s .k) (marked isZero (s .square)) (marked isZero (replaced isZero (s .k) step (exchanged (s .k) (step .row) (s .square))))
+  unfolding taken
+  taken-on p s step e =
+      let rest : (leb (s .k) (step .row) && leb (step .row) (p .height)) && not (isZero ((s .square) (step .row) (s .k))) ≡ true =
+      and-right (leb (s .k) (p .n)) ((leb (s .k) (step .row) && leb (step .row) (p .height)) && not (isZero ((s .square) (step .row) (s .k)))) e
+      in
+      let rows : leb (s .k) (step .row) && leb (step .row) (p .height) ≡ true =
+      and-left (leb (s .k) (step .row) && leb (step .row) (p .height)) (not (isZero ((s .square) (step .row) (s .k)))) rest
+      in
+      let low : s .k ≤ step .row = leb-true _ _ (and-left (leb (s .k) (step .row)) (leb (step .row) (p .height)) rows) in
+      let high : step .row ≤ p .height = leb-true _ _ (and-right (leb (s .k) (step .row)) (leb (step .row) (p .height)) rows) in (
+        leb-true _ _ (and-left (leb (s .k) (p .n)) ((leb (s .k) (step .row) && leb (step .row) (p .height)) && not (isZero ((s .square) (step .row) (s .k)))) e),
+        omega arith,
+        step-on isZero (s .k) (step .row) (s .square)
             (replaced isZero (s .k) step (exchanged (s .k) (step .row) (s .square)))
-            (leb-true _ _ (and-left (leb (s .k) (step .row)) (leb (step .row) (p .height)) rows))
+            low
             (not-true _ (and-right (leb (s .k) (step .row) && leb (step .row) (p .height)) (not (isZero ((s .square) (step .row) (s .k)))) rest))
-            (replaced-clears (s .k) step (exchanged (s .k) (step .row) (s .square)))
+            (replaced-clears (s .k) step (exchanged (s .k) (step .row) (s .square))),
+      )
 
-    -- So does every list of steps.
-    held-free-run : (s : FreeState A) (steps : List (FreeStep A)) → Holds s → Holds (freeRun p isZero s steps)
+  -- What holds of k and its places, and of the next k after every step on places in range, holds after every list of steps.
+  module _ (p : Pattern) (P : ℕ → Places → Type 0) (keeps : (k : ℕ) (before now : Places) → 1 ≤ k → k ≤ p .n → k ≤ p .height → StepOn k before now → P k before → P (suc k) now) where
+    abbrev Holds : FreeState A → Type 0
+    Holds s = (1 ≤ s .k) × P (s .k) (marked isZero (s .square))
+
+    -- a taken step is a step on places in range; a refused one changes nothing
+    step-keeps : (s : FreeState A) (step : FreeStep A) → Holds s → Holds (freeStep p isZero s step)
+    unfolding freeStep
+    step-keeps s step h =
+        by-test (taken p isZero s step)
+        (λ e. let (in-columns, in-rows, on) = taken-on p s step e in rw e (omega arith, keeps (s .k) _ _ (h .0) in-columns in-rows on (h .1)))
+        (λ e. rw e h)
+
+    -- so does every list of steps
+    run-keeps : (s : FreeState A) (steps : List (FreeStep A)) → Holds s → Holds (freeRun p isZero s steps)
     unfolding freeRun
-    held-free-run s [] h = h
-    held-free-run s (step ∷ steps) h = held-free-run (freeStep p isZero s step) steps (held-free-step s step h)
+    run-keeps s [] h = h
+    run-keeps s (step ∷ steps) h = run-keeps (freeStep p isZero s step) steps (step-keeps s step h)
 
-    -- The invariant holds of the given numbers, zero outside the pattern.
-    held-free-start :
-        ((i j : ℕ) → present p i j ≡ true → 1 ≤ j) → (zero : A) → isZero zero ≡ true → (values : Square A) → Holds (freeStart p zero values)
+    -- So it holds after every list of steps if it holds of 1 and the given numbers, zero outside the pattern.
+    from-start :
+        (zero : A) (values : Square A) (steps : List (FreeStep A)) → P 1 (marked isZero (placed p zero values))
+        → Holds (freeRun p isZero (freeStart p zero values) steps)
     unfolding freeStart
-    held-free-start from-one zero z values =
-        (omega arith, held-at-start closed (marked isZero (placed p zero values)) given from-one)
-      where
-        given : (i j : ℕ) → marked isZero (placed p zero values) i j ≡ true → present p i j ≡ true
-        given i j = marked-present p isZero zero z values i j
+    from-start zero values steps h = run-keeps (freeStart p zero values) steps (omega arith, h)
 
-    -- Whatever steps are tried, each nonzero of the square stands in a slot of the closed lists.
-    pub free-contained :
-        ((i j : ℕ) → present p i j ≡ true → 1 ≤ j) → (zero : A) → isZero zero ≡ true → (values : Square A) (steps : List (FreeStep A)) (i j : ℕ)
-        → isZero ((freeRun p isZero (freeStart p zero values) steps) .square i j) ≡ false → slotIn L U i j ≡ true
-    free-contained from-one zero z values steps i j m =
-        contained closed (held-free-run (freeStart p zero values) steps (held-free-start from-one zero z values) .1) i j (ap not m)
+  -- Whatever steps are tried, each nonzero of the square stands in a slot of the closed lists.
+  pub free-contained :
+      {p : Pattern} {L U : ℕ → List ℕ} → Closed p L U → ((i j : ℕ) → present p i j ≡ true → 1 ≤ j)
+      → (zero : A) → isZero zero ≡ true → (values : Square A) (steps : List (FreeStep A)) (i j : ℕ)
+      → isZero ((freeRun p isZero (freeStart p zero values) steps) .square i j) ≡ false → slotIn L U i j ≡ true
+  free-contained {p} {L} {U} closed from-one zero z values steps i j m =
+      contained closed
+      (from-start p (Held p L U) (λ k before now low in-columns in-rows on h. held-after-step closed k low h on) zero values steps
+      (held-at-start closed (marked isZero (placed p zero values)) (marked-present p isZero zero z values) from-one) .1)
+      i j (ap not m)
+
+  -- And it stands in the rows and columns of the pattern, if all places of the pattern do.
+  pub free-inside :
+      (p : Pattern) → Inside (p .height) (p .n) (present p) → (zero : A) → isZero zero ≡ true → (values : Square A) (steps : List (FreeStep A))
+      → Inside (p .height) (p .n) (marked isZero ((freeRun p isZero (freeStart p zero values) steps) .square))
+  free-inside p within zero z values steps =
+      from-start p (λ k. Inside (p .height) (p .n))
+      (λ k before now low in-columns in-rows on. inside-after-step (p .height) (p .n) k low in-rows in-columns on)
+      zero values steps
+      (λ i j m. within i j (marked-present p isZero zero z values i j m)) .1
+
+  -- A step, taken or refused, leaves the columns before k, and k does not fall.
+  step-stays :
+      (p : Pattern) (s : FreeState A) (step : FreeStep A) (i j : ℕ) → j < s .k
+      → (j < (freeStep p isZero s step) .k) × ((freeStep p isZero s step) .square i j ≡ (s .square) i j)
+  unfolding freeStep
+  step-stays p s step i j h =
+      by-test (taken p isZero s step)
+      (λ e. rw e (
+        omega arith,
+        replaced-clears (s .k) step (exchanged (s .k) (step .row) (s .square)) .left i j h ∙ exchanged-left (s .k) (step .row) (s .square) i j h,
+      ))
+      (λ e. rw e (h, refl))
+
+  -- So does every list of steps.
+  pub columns-stay :
+      (p : Pattern) (s : FreeState A) (steps : List (FreeStep A)) (i j : ℕ) → j < s .k → (freeRun p isZero s steps) .square i j ≡ (s .square) i j
+  unfolding freeRun
+  columns-stay p s [] i j h = refl
+  columns-stay p s (step ∷ steps) i j h =
+      let (further, same) = step-stays p s step i j h in
+      columns-stay p (freeStep p isZero s step) steps i j further ∙ same
+
+-- Earlier multipliers stay where they were written.
+pub multipliers-stay : MultipliersStay
+unfolding MultipliersStay
+multipliers-stay p A isZero = columns-stay isZero p
+
+-- The places of a pattern that can be planned lie in its rows and in columns 1 to n.
+pub present-inside : (p : Pattern) → Plannable p → Inside (p .height) (p .n) (present p)
+unfolding present
+present-inside p able i j e =
+    let rows : leb 1 i && leb i (p .height) ≡ true = and-left (leb 1 i && leb i (p .height)) (member j (p .row i)) e in
+    let in-row : member j (p .row i) ≡ true = and-right (leb 1 i && leb i (p .height)) (member j (p .row i)) e in
+    let from-row : 1 ≤ i = leb-true _ _ (and-left (leb 1 i) (leb i (p .height)) rows) in
+    let to-row : i ≤ p .height = leb-true _ _ (and-right (leb 1 i) (leb i (p .height)) rows) in
+    (from-row, to-row, member-low j 1 (p .row i) (able .ascending i from-row to-row) in-row, able .bounded i j from-row to-row in-row)
 
 -- Columns of a pattern that can be planned count from 1.
 pub columns-from-one : (p : Pattern) → Plannable p → (i j : ℕ) → present p i j ≡ true → 1 ≤ j
-unfolding present
-columns-from-one p able i j e =
-    let rows : leb 1 i && leb i (p .height) ≡ true = and-left (leb 1 i && leb i (p .height)) (member j (p .row i)) e in
-    let from-row : 1 ≤ i = leb-true _ _ (and-left (leb 1 i) (leb i (p .height)) rows) in
-    let to-row : i ≤ p .height = leb-true _ _ (and-right (leb 1 i) (leb i (p .height)) rows) in
-    member-low j 1 (p .row i) (able .ascending i from-row to-row) (and-right (leb 1 i && leb i (p .height)) (member j (p .row i)) e)
+columns-from-one p able i j e = present-inside p able i j e .2
 
 -- The slots suffice, if what passes can be planned and the plan of such a pattern is as PlanFacts says.
 pub slots-suffice-from :
     ((p : Pattern) → Plannable p → PlanFacts p (plan p)) → ((most : ℕ) (p : Lent) → patternFault most p ≡ 0 → Plannable (patternOf p)) → SlotsSuffice
-unfolding SlotsSuffice hasSlot
-slots-suffice-from facts passes most p ok A isZero zero z values steps t =
+unfolding SlotsSuffice hasSlot patternOf
+slots-suffice-from facts passes most p ok A isZero zero z values steps t i j m =
     let able : Plannable (patternOf p) = passes most p ok in
-    free-contained isZero (facts (patternOf p) able .closed) (columns-from-one (patternOf p) able) zero z values (take t steps)
+    let (i-low, i-high, j-low, j-high) = free-inside isZero (patternOf p) (present-inside (patternOf p) able) zero z values (take t steps) i j (ap not m) in (
+      i-low,
+      i-high,
+      j-low,
+      j-high,
+      free-contained isZero (facts (patternOf p) able .closed) (columns-from-one (patternOf p) able) zero z values (take t steps) i j m,
+    )

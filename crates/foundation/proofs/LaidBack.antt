@@ -172,5 +172,5 @@ laid-back s n square outside i j i-low i-high j-low j-high = at (slot-case s i j
 pub laid-back-from :
     ((p : Pattern) → Plannable p → PlanFacts p (plan p)) → ((most : ℕ) (p : Lent) → patternFault most p ≡ 0 → Plannable (patternOf p)) → LaidBack
 unfolding LaidBack ZeroOutside
-laid-back-from facts passes most p ok choice s order values right g e =
-    laid-back (plan (patternOf p)) (p .n) (g .square) (zero-outside-from facts passes most p ok choice s order values right g e)
+laid-back-from facts passes most p ok choice extent order values right g e i j (i-low, i-high, j-low, j-high) =
+    laid-back (plan (patternOf p)) (p .n) (g .square) (zero-outside-from facts passes most p ok choice extent order values right g e) i j i-low i-high j-low j-high

@@ -10,6 +10,7 @@ pub mod Opening
 pub mod Starts
 pub mod Room
 pub mod Stores
+pub mod Inside
 pub mod FreeSteps
 pub mod FloatSteps
 pub mod FloatRun

@@ -7,7 +7,7 @@ use Rattle.foundation.specs.Pattern.{lent, column, present, rowOf, patte
 use Rattle.foundation.specs.Plan.{list, beforeSteps, unmetRows, brings, fromRows, fromSteps, gathered, handOn, readsAt, turn, after, plan}
 use Rattle.foundation.specs.Subscripts.{kept, only, soleStep, sharedEnd, startAt, addedAt, shared, opened, startsStore, short, roomFault}
 use Rattle.foundation.specs.Slots.{slotIn, hasSlot, slotsOf, slotStarts, slotAt}
-use Rattle.foundation.specs.PlanCall.{subscripts, countsOf, sizesFit, planned, planAnswer}
+use Rattle.foundation.specs.PlanCall.{subscripts, countsOf, workFits, startsSized, sizesFit, planned, planAnswer}
 use Rattle.foundation.specs.Numbers.{plusZero, isZero, finite, magnitude, mayPivot, product, difference, quotient, bitsOf, ofPattern}
 use Rattle.foundation.specs.Square.{swap, placed, exchanged}
 use Rattle.foundation.specs.Reference.{stepsOf, better, best, pivotRow, multiplier, reduced, eliminated, exchangedRight, eliminatedRight, updatesAt, soundUpdate, soundPlace, soundRow, soundStep, numberOf, stepped, soundWith, stepWith, step, running, starting, substituted, solvedRow, back, solved, ended, reference}
@@ -15,14 +15,14 @@ use Rattle.foundation.specs.Shown.{atSide, shown, shownDiagonal, slotRea
 use Rattle.foundation.specs.RunCall.{lendingFits, allFinite, rowsInRange, choiceFits, extentFits, orderFits, valueAt, rightAt, courseAnswer, ranWith, runAnswer}
 use Rattle.foundation.specs.Text.{ascii}
 use Rattle.foundation.specs.Job.{maxJobBytes, maxJobN, littleEndian, nothingRead, choiceOf, jobOf, cutShort, misplaced, operand, readN, readR, readE, readB, readP, readZ, command, next, reading, readJob}
-use Rattle.foundation.specs.Printing.{jobRoom, fittingSizes, jobLending, jobRun, digits, decimal, hexDigit, hexDigits, hexBits, spaced, planLine, rowsLine, solutionLine, updatesLine, refusedLine, report, answerText, jobText, printed}
+use Rattle.foundation.specs.Printing.{jobRoom, fittingWork, blankSide, blankStores, jobLending, jobRun, digits, decimal, hexDigit, hexDigits, hexBits, spaced, planLine, rowsLine, solutionLine, updatesLine, refusedLine, report, answerText, jobText, printed}
 
 unfoldable pub lists : Unit {0}
 unfolding update keep all empty total chain padded same member run upto between mergeOne union joinAll from first leastAbove indexOf begins overlap
 lists = tt
 
 unfoldable pub plans : Unit {0}
-unfolding lists refuseIf andThen resultStore workStore lent column present rowOf patternOf maxN maxEntries tooLarge notFalling startsFit entriesFault firstFault rowFault rowsFault patternFault judged list beforeSteps unmetRows brings fromRows fromSteps gathered handOn readsAt turn after plan kept only soleStep sharedEnd startAt addedAt shared opened startsStore short roomFault slotIn hasSlot slotsOf slotStarts slotAt subscripts countsOf sizesFit planned planAnswer
+unfolding lists refuseIf andThen resultStore workStore lent column present rowOf patternOf maxN maxEntries tooLarge notFalling startsFit entriesFault firstFault rowFault rowsFault patternFault judged list beforeSteps unmetRows brings fromRows fromSteps gathered handOn readsAt turn after plan kept only soleStep sharedEnd startAt addedAt shared opened startsStore short roomFault slotIn hasSlot slotsOf slotStarts slotAt subscripts countsOf workFits startsSized sizesFit planned planAnswer
 plans = tt
 
 unfoldable pub runs : Unit {0}
@@ -30,5 +30,5 @@ unfolding plans add sub mul div neg eq lt ofInt toBits plusZero isZero finite ma
 runs = tt
 
 unfoldable pub prints : Unit {0}
-unfolding runs ofBits ofPattern ascii maxJobBytes maxJobN littleEndian nothingRead choiceOf jobOf cutShort misplaced operand readN readR readE readB readP readZ command next reading readJob jobRoom fittingSizes jobLending jobRun digits decimal hexDigit hexDigits hexBits spaced planLine rowsLine solutionLine updatesLine refusedLine report answerText jobText printed
+unfolding runs ofBits ofPattern ascii maxJobBytes maxJobN littleEndian nothingRead choiceOf jobOf cutShort misplaced operand readN readR readE readB readP readZ command next reading readJob jobRoom fittingWork blankSide blankStores jobLending jobRun digits decimal hexDigit hexDigits hexBits spaced planLine rowsLine solutionLine updatesLine refusedLine report answerText jobText printed
 prints = tt

@@ -60,9 +60,9 @@ module _ {ℓ κ} {A : Type ℓ} {B : Type κ} where
   result-length blank room contents (granted a) h = length-padded blank room (contents a) (h a refl)
 
 -- a work store holds zeros
-pub work-zeros : (room : ℕ) → workStore room ≡ replicate room 0
+pub work-blank {ℓ} : {A : Type ℓ} (blank : A) (room : ℕ) → workStore blank room ≡ replicate room blank
 unfolding workStore
-work-zeros room = refl
+work-blank blank room = refl
 
 -- ---- the stores of a planning call
 

@@ -26,6 +26,6 @@ module _ {ℓ} {A : Type ℓ} where
   resultStore blank room contents (refused number step) = replicate room blank
   resultStore blank room contents (granted a) = padded blank room (contents a)
 
--- What a work store of `room` places holds after every call. Document 01: "as are work stores after every call".
-unfoldable pub workStore : ℕ → List ℕ
-workStore room = replicate room 0
+-- What a work store of `room` places, of numbers of any kind, holds after every call. Document 01: "as are work stores after every call".
+unfoldable pub workStore {ℓ} : {A : Type ℓ} → A → ℕ → List A
+workStore blank room = replicate room blank

@@ -1,6 +1,6 @@
 -- Lists that are closed for a pattern, and steps on sets of places: what the theorem that the slots suffice speaks of. Nothing here says
 -- how the lists were made, nor which numbers stand in the places.
-use mathlib.Core.Bool.{Bool, true, false}
+use mathlib.Core.Bool.{Bool, true}
 use mathlib.Core.List.{List}
 use mathlib.Core.Logic.{_⊎_}
 use mathlib.Core.Path.{_≡_}

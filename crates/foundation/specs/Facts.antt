@@ -1,6 +1,6 @@
--- What is claimed of the plan: records that theorems fill and that callers read.
-use mathlib.Core.Bool.{Bool, true, false}
-use mathlib.Core.List.{List, _∷_}
+-- What is claimed of every plan.
+use mathlib.Core.Bool.{true}
+use mathlib.Core.List.{_∷_}
 use mathlib.Core.Logic.{_↔_}
 use mathlib.Core.Path.{_≡_}
 use Prim.Native.Nat.{ℕ, _+_, _*_, _≤_, _<_}

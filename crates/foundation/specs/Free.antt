@@ -1,6 +1,6 @@
 -- The free elimination (document 01, "Free elimination"): demand 3's process. It knows no plan; numbers are of any kind, and only whether
 -- one is zero counts.
-use mathlib.Core.Bool.{Bool, cond, not, _&&_, _||_}
+use mathlib.Core.Bool.{Bool, cond, not, _&&_}
 use mathlib.Core.List.{List, [], _∷_}
 use Prim.Native.Nat.{ℕ, suc}
 use lib.Dec.{eqb, ltb, leb}

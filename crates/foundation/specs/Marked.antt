@@ -16,9 +16,10 @@ use Rattle.foundation.specs.Subscripts.{kept, startsStore}
 use Rattle.foundation.specs.Numbers.{bitsOf}
 use Rattle.foundation.specs.Reference.{Choice, largest, listed, Extent, whole, cut}
 use Rattle.foundation.specs.Shown.{shown, shownDiagonal}
-use Rattle.foundation.specs.PlanCall.{Sizes, planned, subscripts}
+use Rattle.foundation.specs.PlanCall.{planned, subscripts}
 use Rattle.foundation.specs.RunCall.{Lending, Ran, ranWith}
 use Rattle.foundation.specs.Text.{ascii}
+use Rattle.foundation.specs.Printing.{blankStores, fittingWork}
 
 -- ---- the examples
 
@@ -62,9 +63,17 @@ twoRun extent values =
 
 -- ---- what a row shows
 
+-- 0 and the number and step of a refusal, or 1 and what was granted
 unfoldable pub told : {A : Type 0} → (A → List (List ℕ)) → Answer A → List (List ℕ)
-told show (refused number step) = (number ∷ step ∷ []) ∷ []
-told show (granted a) = show a
+told show (refused number step) = (0 ∷ number ∷ step ∷ []) ∷ []
+told show (granted a) = (1 ∷ []) ∷ show a
+
+-- how a row expects a refusal, and what was granted
+unfoldable pub refusal : ℕ → ℕ → List (List ℕ)
+refusal number step = (0 ∷ number ∷ step ∷ []) ∷ []
+
+unfoldable pub grant : List (List ℕ) → List (List ℕ)
+grant shown = (1 ∷ []) ∷ shown
 
 unfoldable pub showUpdates : Ran → List (List ℕ)
 showUpdates r = (r .end .updates ∷ []) ∷ []
@@ -122,8 +131,9 @@ Holds table = all matches table ≡ true
 unfoldable pub fourPlan : Planning
 fourPlan = plan (patternOf fourFields)
 
-unfoldable pub noSizes : Sizes
-noSizes = record { ofN = []; ofNext = []; ofEntries = [] }
+-- planning with so much room for subscripts a side
+unfoldable pub plannedWith : Lent → ℕ → ℕ → Answer Planning
+plannedWith p roomL roomU = planned maxN p (blankStores (p .n) roomL roomU) fittingWork
 
 unfoldable pub marked : List Case
 unfolding float
@@ -138,29 +148,27 @@ marked =
     -- M3: "reads 31"
     ∷ case ((fourPlan .reads ∷ []) ∷ []) ((31 ∷ []) ∷ [])
     -- M4: "rows", those of the listing
-    ∷ case (told showPivots (fourRun largest whole)) ((3 ∷ 4 ∷ 3 ∷ 4 ∷ []) ∷ [])
+    ∷ case (told showPivots (fourRun largest whole)) (grant ((3 ∷ 4 ∷ 3 ∷ 4 ∷ []) ∷ []))
     -- M5: "list 1,2,3,4 gives 2 updates"
-    ∷ case (told showUpdates (fourRun (listed (1 ∷ 2 ∷ 3 ∷ 4 ∷ [])) whole)) ((2 ∷ []) ∷ [])
+    ∷ case (told showUpdates (fourRun (listed (1 ∷ 2 ∷ 3 ∷ 4 ∷ [])) whole)) (grant ((2 ∷ []) ∷ []))
     -- M6: "list 1,2,4,4 gives 3 and puts 2 in U slot (3,4), zero in the listing's run". U slots are (1,3), (2,3), (2,4), (3,4); L slots (3,1),
     -- (4,2), (4,3): the multipliers of steps 1 and 2 stay where they were written, though step 3 exchanges rows 3 and 4.
     ∷ case
     (told showUpdates (fourRun (listed (1 ∷ 2 ∷ 4 ∷ 4 ∷ [])) whole)
     ++ told (showSlots 4) (fourRun (listed (1 ∷ 2 ∷ 4 ∷ 4 ∷ [])) whole)
     ++ told (showUpper 4) (fourRun largest whole))
-    ((3 ∷ [])
-    ∷ bits (2 ∷ 2 ∷ 2 ∷ [])
-    ∷ bits (1 ∷ 0 ∷ 1 ∷ 2 ∷ [])
-    ∷ (bits (2 ∷ 1 ∷ 1 ∷ []) ++ (bitsOf (neg (float 4)) ∷ []))
-    ∷ bits (4 ∷ 1 ∷ 4 ∷ 0 ∷ [])
-    ∷ [])
+    (grant ((3 ∷ []) ∷ [])
+    ++ grant
+    (bits (2 ∷ 2 ∷ 2 ∷ []) ∷ bits (1 ∷ 0 ∷ 1 ∷ 2 ∷ []) ∷ (bits (2 ∷ 1 ∷ 1 ∷ []) ++ (bitsOf (neg (float 4)) ∷ [])) ∷ [])
+    ++ grant (bits (4 ∷ 1 ∷ 4 ∷ 0 ∷ []) ∷ []))
     -- M7: "list 2,2,3,4 is 13 at step 1"
-    ∷ case (told showUpdates (fourRun (listed (2 ∷ 2 ∷ 3 ∷ 4 ∷ [])) whole)) ((13 ∷ 1 ∷ []) ∷ [])
+    ∷ case (told showUpdates (fourRun (listed (2 ∷ 2 ∷ 3 ∷ 4 ∷ [])) whole)) (refusal 13 1)
     -- M8: "list 1,1,3,4 is 12"
-    ∷ case (told showUpdates (fourRun (listed (1 ∷ 1 ∷ 3 ∷ 4 ∷ [])) whole)) ((12 ∷ 0 ∷ []) ∷ [])
+    ∷ case (told showUpdates (fourRun (listed (1 ∷ 1 ∷ 3 ∷ 4 ∷ [])) whole)) (refusal 12 0)
     -- M9: "n = 1 with value 0 is 13 at step 1"
-    ∷ case (told showUpdates (oneRun (float 0 ∷ []))) ((13 ∷ 1 ∷ []) ∷ [])
+    ∷ case (told showUpdates (oneRun (float 0 ∷ []))) (refusal 13 1)
     -- M10: "column entries 2 and -2 choose the upper row"
-    ∷ case (told showPivots (twoRun whole (float 2 ∷ float 1 ∷ neg (float 2) ∷ float 1 ∷ []))) ((1 ∷ 2 ∷ []) ∷ [])
+    ∷ case (told showPivots (twoRun whole (float 2 ∷ float 1 ∷ neg (float 2) ∷ float 1 ∷ []))) (grant ((1 ∷ 2 ∷ []) ∷ []))
     ∷ []
 
 -- Other small cases of document 01.
@@ -168,29 +176,29 @@ unfoldable pub also : List Case
 unfolding float
 also =
     -- "Also: (..) 1,025 is 1"
-    case (told (showPlanned 4) (planned maxN (lent 1025 [] []) noSizes 2 2)) ((1 ∷ 0 ∷ []) ∷ [])
+    case (told (showPlanned 4) (plannedWith (lent 1025 [] []) 2 2)) (refusal 1 0)
     -- "2 subscripts a side suffice for the four fields, 1 for L is 7 at step 2"; and 1 for U is 8 at step 2
-    ∷ case (told (showPlanned 4) (planned maxN fourFields noSizes 2 2)) ((2 ∷ 2 ∷ []) ∷ [])
-    ∷ case (told (showPlanned 4) (planned maxN fourFields noSizes 1 2)) ((7 ∷ 2 ∷ []) ∷ [])
-    ∷ case (told (showPlanned 4) (planned maxN fourFields noSizes 2 1)) ((8 ∷ 2 ∷ []) ∷ [])
+    ∷ case (told (showPlanned 4) (plannedWith fourFields 2 2)) (grant ((2 ∷ 2 ∷ []) ∷ []))
+    ∷ case (told (showPlanned 4) (plannedWith fourFields 1 2)) (refusal 7 2)
+    ∷ case (told (showPlanned 4) (plannedWith fourFields 2 1)) (refusal 8 2)
     -- 5 in row 2 goes before 3 in row 3; 3 before 4 at an entry; 5 only at the row's end
-    ∷ case (told (showPlanned 3) (planned maxN (lent 3 (0 ∷ 1 ∷ 2 ∷ 3 ∷ []) (1 ∷ 1 ∷ 4 ∷ [])) noSizes 2 2)) ((5 ∷ 0 ∷ []) ∷ [])
-    ∷ case (told (showPlanned 2) (planned maxN (lent 2 (0 ∷ 2 ∷ 3 ∷ []) (1 ∷ 0 ∷ 2 ∷ [])) noSizes 2 2)) ((3 ∷ 0 ∷ []) ∷ [])
-    ∷ case (told (showPlanned 2) (planned maxN (lent 2 (0 ∷ 1 ∷ 2 ∷ []) (3 ∷ 2 ∷ [])) noSizes 2 2)) ((3 ∷ 0 ∷ []) ∷ [])
+    ∷ case (told (showPlanned 3) (plannedWith (lent 3 (0 ∷ 1 ∷ 2 ∷ 3 ∷ []) (1 ∷ 1 ∷ 4 ∷ [])) 2 2)) (refusal 5 0)
+    ∷ case (told (showPlanned 2) (plannedWith (lent 2 (0 ∷ 2 ∷ 3 ∷ []) (1 ∷ 0 ∷ 2 ∷ [])) 2 2)) (refusal 3 0)
+    ∷ case (told (showPlanned 2) (plannedWith (lent 2 (0 ∷ 1 ∷ 2 ∷ []) (3 ∷ 2 ∷ [])) 2 2)) (refusal 3 0)
     -- a cut to n steps is no whole run: the solution store has the right side, not the solution
-    ∷ case (told (showRight 4) (fourRun largest (cut 4))) ((bits (8 ∷ 7 ∷ []) ++ map (λ k. bitsOf (neg (float k))) (1 ∷ 1 ∷ [])) ∷ [])
-    ∷ case (told (showRight 4) (fourRun largest whole)) (bits (1 ∷ 1 ∷ 1 ∷ 1 ∷ []) ∷ [])
+    ∷ case (told (showRight 4) (fourRun largest (cut 4))) (grant ((bits (8 ∷ 7 ∷ []) ++ map (λ k. bitsOf (neg (float k))) (1 ∷ 1 ∷ [])) ∷ []))
+    ∷ case (told (showRight 4) (fourRun largest whole)) (grant (bits (1 ∷ 1 ∷ 1 ∷ 1 ∷ []) ∷ []))
     -- a run cut to 0 steps shows the values themselves
     ∷ case (told (showSlots 4) (fourRun largest (cut 0)))
-    (bits (4 ∷ 2 ∷ 1 ∷ []) ∷ bits (1 ∷ 0 ∷ 1 ∷ 0 ∷ []) ∷ bits (2 ∷ 1 ∷ 4 ∷ 4 ∷ []) ∷ [])
+    (grant (bits (4 ∷ 2 ∷ 1 ∷ []) ∷ bits (1 ∷ 0 ∷ 1 ∷ 0 ∷ []) ∷ bits (2 ∷ 1 ∷ 4 ∷ 4 ∷ []) ∷ []))
     -- "Multiplying by zeros of the square: a place of -0 can turn into +0": place (2,2) keeps its -0 beside a pivot row's -0
     ∷ case (told (showSlots 2) (twoRun (cut 1) (float 1 ∷ neg (float 0) ∷ float 1 ∷ neg (float 0) ∷ [])))
-    (bits (1 ∷ []) ∷ (bitsOf (neg (float 0)) ∷ []) ∷ (bitsOf (float 1) ∷ bitsOf (neg (float 0)) ∷ []) ∷ [])
+    (grant (bits (1 ∷ []) ∷ (bitsOf (neg (float 0)) ∷ []) ∷ (bitsOf (float 1) ∷ bitsOf (neg (float 0)) ∷ []) ∷ []))
     -- a zero entry is no multiplier that updates: place (2,2) keeps its -0 beside a zero entry (2,1) and a pivot row's -1
     ∷ case (told (showSlots 2) (twoRun (cut 1) (float 1 ∷ neg (float 1) ∷ float 0 ∷ neg (float 0) ∷ [])))
-    (bits (0 ∷ []) ∷ (bitsOf (neg (float 1)) ∷ []) ∷ (bitsOf (float 1) ∷ bitsOf (neg (float 0)) ∷ []) ∷ [])
+    (grant (bits (0 ∷ []) ∷ (bitsOf (neg (float 1)) ∷ []) ∷ (bitsOf (float 1) ∷ bitsOf (neg (float 0)) ∷ []) ∷ []))
     -- 12 goes before 13: a cut to 5 of 4 steps
-    ∷ case (told showUpdates (fourRun (listed (2 ∷ 2 ∷ 3 ∷ 4 ∷ [])) (cut 5))) ((12 ∷ 0 ∷ []) ∷ [])
+    ∷ case (told showUpdates (fourRun (listed (2 ∷ 2 ∷ 3 ∷ 4 ∷ [])) (cut 5))) (refusal 12 0)
     ∷ []
 
 -- ---- the job

@@ -1,7 +1,7 @@
 -- What the elimination asks of an f64: zero of either sign, finite, magnitude, and the operations with one rounding each.
 use mathlib.Core.Bool.{Bool, true, false, not}
 use Prim.Native.Nat.{ℕ}
-use lib.Ieee.{Float, nan, inf, fin, binary64, add, sub, mul, div, eq, lt, toBits, ofBits}
+use lib.Ieee.{Float, nan, inf, fin, binary64, sub, mul, div, eq, toBits, ofBits}
 use lib.IntN.{pos}
 
 -- +0: what stands at every place outside the pattern (document 01, "Elimination": "+0 outside the pattern").
@@ -19,6 +19,7 @@ finite nan = false
 finite (inf s) = false
 finite (fin s m e) = true
 
+-- the number without its sign
 unfoldable pub magnitude : Float → Float
 magnitude nan = nan
 magnitude (inf s) = inf false
@@ -35,6 +36,7 @@ product m u = mul binary64 m u
 unfoldable pub difference : Float → Float → Float
 difference place taken = sub binary64 place taken
 
+-- "m = entry / pivot", rounded once
 unfoldable pub quotient : Float → Float → Float
 quotient entry pivot = div binary64 entry pivot
 

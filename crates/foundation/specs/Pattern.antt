@@ -1,7 +1,7 @@
 -- The pattern of a field's equations, as it is lent and as the steps read it, and the judgement 1 to 5.
-use mathlib.Core.Bool.{Bool, true, false, cond, not, _&&_, _||_}
+use mathlib.Core.Bool.{Bool, true, cond, _&&_, _||_}
 use mathlib.Core.List.{List, [], _∷_}
-use Prim.Native.Nat.{ℕ, zero, suc, _+_}
+use Prim.Native.Nat.{ℕ, zero, suc}
 use lib.Dec.{eqb, ltb, leb}
 use lib.ListN.{length, getD}
 use lib.Seq.{slice}
@@ -37,6 +37,7 @@ unfoldable pub rowOf : Lent → ℕ → List ℕ
 rowOf p zero = []
 rowOf p (suc i) = slice (getD (p .starts) i 0) (getD (p .starts) (suc i) 0) (p .columns)
 
+-- the pattern that a lent one stands for: n rows and n columns
 unfoldable pub patternOf : Lent → Pattern
 patternOf p = record { n = p .n; height = p .n; row = rowOf p }
 
@@ -52,7 +53,7 @@ maxEntries = 16384
 -- Table, 1: "n is 0 or above 1,024 (program: 128), or entries above 16,384". The largest n is a parameter.
 unfoldable pub tooLarge : ℕ → Lent → Bool
 unfolding maxEntries
-tooLarge largest p = eqb (p .n) 0 || (ltb largest (p .n) || ltb maxEntries (length (p .columns)))
+tooLarge most p = eqb (p .n) 0 || (ltb most (p .n) || ltb maxEntries (length (p .columns)))
 
 -- each number of the list is at least the one before it, the first at least `low`
 unfoldable pub notFalling : ℕ → List ℕ → Bool
@@ -85,10 +86,11 @@ unfoldable pub rowsFault : Lent → ℕ → ℕ → ℕ
 rowsFault p i zero = 0
 rowsFault p i (suc left) = firstFault (rowFault p i) (rowsFault p (suc i) left)
 
--- Refusals 1 to 5 in the table's order: the number of the first that is given, 0 where the pattern passes.
+-- Refusals 1 to 5 in the table's order: the number of the first that is given, 0 where the pattern passes 1 to 5, which is document 01's "a
+-- pattern that can be planned".
 unfoldable pub patternFault : ℕ → Lent → ℕ
-patternFault largest p = cond (tooLarge largest p) 1 (cond (startsFit p) (rowsFault p 1 (p .n)) 2)
+patternFault most p = cond (tooLarge most p) 1 (cond (startsFit p) (rowsFault p 1 (p .n)) 2)
 
 -- the first refusal, or the rows
 unfoldable pub judged : ℕ → Lent → Answer Pattern
-judged largest p = cond (eqb (patternFault largest p) 0) (granted (patternOf p)) (refused (patternFault largest p) 0)
+judged most p = cond (eqb (patternFault most p) 0) (granted (patternOf p)) (refused (patternFault most p) 0)

@@ -1,14 +1,14 @@
 -- The plan of a pattern: the report's symbolic factorization (CS-84-43, section 2), step by step.
-use mathlib.Core.Bool.{Bool, true, false, cond, not, _&&_, _||_}
+use mathlib.Core.Bool.{Bool, false, cond, not, _||_}
 use mathlib.Core.List.{List, [], _∷_}
 use Prim.Native.Nat.{ℕ, zero, suc, _+_}
-use lib.Dec.{eqb, ltb}
+use lib.Dec.{ltb}
 use lib.ListN.{length}
 use Rattle.lists.specs.Functions.{keep, update, total}
 use Rattle.lists.specs.Sets.{member, joinAll, from, leastAbove}
 use Rattle.foundation.specs.Pattern.{Pattern, column}
 
--- L and U are one development: a side is a parameter.
+-- L and U, the sides of a plan.
 pub data Side : Type 0 where
   lower upper : Side
 
@@ -87,6 +87,6 @@ unfoldable pub after : Pattern → ℕ → Planning
 after p zero = beforeSteps
 after p (suc k) = turn p (suc k) (after p k)
 
--- the plan
+-- Document 01, "Plan": L_k, U_k, the sets S and the reads after all n steps.
 unfoldable pub plan : Pattern → Planning
 plan p = after p (p .n)

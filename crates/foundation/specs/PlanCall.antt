@@ -1,12 +1,12 @@
 -- What a planning call answers and leaves in the lent stores, and when a lent plan is this pattern's plan.
-use mathlib.Core.Bool.{Bool, true, cond, not, _&&_}
+use mathlib.Core.Bool.{Bool, not, _&&_}
 use mathlib.Core.List.{List}
 use Prim.Native.Nat.{ℕ, suc}
 use lib.Dec.{eqb}
 use lib.ListN.{length, take}
 use Rattle.lists.specs.Functions.{all, same}
-use Rattle.foundation.specs.Answer.{Answer, refused, granted, refuseIf, andThen, resultStore}
-use Rattle.foundation.specs.Pattern.{Lent, Pattern, judged}
+use Rattle.foundation.specs.Answer.{Answer, granted, refuseIf, andThen, resultStore}
+use Rattle.foundation.specs.Pattern.{Lent, judged}
 use Rattle.foundation.specs.Plan.{Planning, Side, lower, upper, plan}
 use Rattle.foundation.specs.Subscripts.{shared, startsStore, roomFault}
 use Rattle.foundation.specs.Slots.{slotsOf, slotStarts}
@@ -25,6 +25,7 @@ pub record Counts : Type 0 where
 unfoldable pub subscripts : Planning → Side → ℕ → List ℕ
 subscripts s side n = (shared s side n) .store
 
+-- every count of a plan
 unfoldable pub countsOf : Lent → Planning → Counts
 countsOf p s =
     record {
@@ -37,29 +38,50 @@ countsOf p s =
       reads = s .reads;
     }
 
--- The lengths of the lent starts and work stores, by what docs/ fixes for each: n, n+1 or entries.
-pub record Sizes : Type 0 where
+-- A side of a plan in its stores: the subscripts, the starts of the lists, the starts of the value slots.
+pub record SideStores : Type 0 where
+  pub subs : List ℕ
+  pub starts : List ℕ
+  pub slotStarts : List ℕ
+
+-- the six stores of a plan
+pub record PlanStores : Type 0 where
+  pub lowerSide : SideStores
+  pub upperSide : SideStores
+
+-- The lengths of the lent work stores, by what docs/ fixes for each: n, n+1 or entries.
+pub record WorkSizes : Type 0 where
   pub ofN : List ℕ
-  pub ofNext : List ℕ
+  pub ofNPlusOne : List ℕ
   pub ofEntries : List ℕ
 
+unfoldable pub workFits : Lent → WorkSizes → Bool
+workFits p work =
+    all (eqb (p .n)) (work .ofN) && (all (eqb (suc (p .n))) (work .ofNPlusOne) && all (eqb (length (p .columns))) (work .ofEntries))
+
+-- n starts of lists and n+1 starts of value slots
+unfoldable pub startsSized : Lent → SideStores → Bool
+startsSized p side = eqb (length (side .starts)) (p .n) && eqb (length (side .slotStarts)) (suc (p .n))
+
 -- Table, 6: "a starts store of the plan, or a work store in any call, has another length than its n, n+1 or entries".
-unfoldable pub sizesFit : Lent → Sizes → Bool
-sizesFit p sizes =
-    all (eqb (p .n)) (sizes .ofN) && (all (eqb (suc (p .n))) (sizes .ofNext) && all (eqb (length (p .columns))) (sizes .ofEntries))
+unfoldable pub sizesFit : Lent → PlanStores → WorkSizes → Bool
+sizesFit p stores work = startsSized p (stores .lowerSide) && (startsSized p (stores .upperSide) && workFits p work)
 
 -- ---- planning
 
--- "Order is that of the table": 1 to 5, 6, then 7 and 8 step by step.
-unfoldable pub planned : ℕ → Lent → Sizes → ℕ → ℕ → Answer Planning
-planned largest p sizes roomL roomU =
-    andThen (judged largest p) (λ pattern. refuseIf (not (sizesFit p sizes)) 6 (roomFault (plan pattern) roomL roomU 1 (p .n)))
+-- "Order is that of the table": 1 to 5, 6, then 7 and 8 step by step. Of the lent stores only the lengths count.
+unfoldable pub planned : ℕ → Lent → PlanStores → WorkSizes → Answer Planning
+planned most p stores work =
+    andThen (judged most p)
+    (λ pattern.
+    refuseIf (not (sizesFit p stores work)) 6
+    (roomFault (plan pattern) (length (stores .lowerSide .subs)) (length (stores .upperSide .subs)) 1 (p .n)))
 
 -- the answer: every count of the plan, or the refusal
 unfoldable pub planAnswer : Lent → Answer Planning → Answer Counts
 planAnswer p answer = andThen answer (λ s. granted (countsOf p s))
 
--- what the result stores hold afterwards, `room` being a store's length
+-- what a result store of `room` places holds afterwards
 unfoldable pub subscriptsAfter : Side → ℕ → ℕ → Answer Planning → List ℕ
 subscriptsAfter side n room answer = resultStore 0 room (λ s. subscripts s side n) answer
 
@@ -69,19 +91,30 @@ startsAfter side n room answer = resultStore 0 room (λ s. startsStore s side n)
 unfoldable pub slotStartsAfter : Side → ℕ → ℕ → Answer Planning → List ℕ
 slotStartsAfter side n room answer = resultStore 0 room (λ s. slotStarts s side n) answer
 
+unfoldable pub sideAfter : Side → ℕ → Answer Planning → SideStores → SideStores
+sideAfter side n answer before =
+    record {
+      subs = subscriptsAfter side n (length (before .subs)) answer;
+      starts = startsAfter side n (length (before .starts)) answer;
+      slotStarts = slotStartsAfter side n (length (before .slotStarts)) answer;
+    }
+
+-- all result stores of a planning call afterwards
+unfoldable pub planLeaves : Lent → Answer Planning → PlanStores → PlanStores
+planLeaves p answer before =
+    record {
+      lowerSide = sideAfter lower (p .n) answer (before .lowerSide);
+      upperSide = sideAfter upper (p .n) answer (before .upperSide);
+    }
+
 -- ---- a lent plan
 
--- a side of a lent plan: its subscript store, the starts of its lists, the starts of its value slots
-pub record LentSide : Type 0 where
-  pub subs : List ℕ
-  pub starts : List ℕ
-  pub slotStarts : List ℕ
-
+-- the counts and the stores that a caller lends as this pattern's plan
 pub record LentPlan : Type 0 where
   pub counts : Counts
-  pub lowerSide : LentSide
-  pub upperSide : LentSide
+  pub stores : PlanStores
 
+-- count for count
 unfoldable pub sameCounts : Counts → Counts → Bool
 sameCounts a b =
     eqb (a .n) (b .n)
@@ -90,7 +123,8 @@ sameCounts a b =
     && (eqb (a .upperSubscripts) (b .upperSubscripts)
     && (eqb (a .lowerSlots) (b .lowerSlots) && (eqb (a .upperSlots) (b .upperSlots) && eqb (a .reads) (b .reads))))))
 
-unfoldable pub sameSide : Planning → Side → ℕ → LentSide → Bool
+-- every start, and every subscript that is used
+unfoldable pub sameSide : Planning → Side → ℕ → SideStores → Bool
 sameSide s side n q =
     same (q .starts) (startsStore s side n)
     && (same (q .slotStarts) (slotStarts s side n)
@@ -99,10 +133,12 @@ sameSide s side n q =
 -- Table, 9: "the lent plan differs from this pattern's plan in some count, start or used subscript".
 unfoldable pub agrees : Lent → Planning → LentPlan → Bool
 agrees p s q =
-    sameCounts (q .counts) (countsOf p s) && (sameSide s lower (p .n) (q .lowerSide) && sameSide s upper (p .n) (q .upperSide))
+    sameCounts (q .counts) (countsOf p s)
+    && (sameSide s lower (p .n) (q .stores .lowerSide) && sameSide s upper (p .n) (q .stores .upperSide))
 
 -- 1 to 5, 6, then 9: this pattern's plan, if the lent one is it.
-unfoldable pub held : ℕ → Lent → Sizes → LentPlan → Answer Planning
-held largest p sizes q =
-    andThen (judged largest p)
-    (λ pattern. refuseIf (not (sizesFit p sizes)) 6 (refuseIf (not (agrees p (plan pattern) q)) 9 (granted (plan pattern))))
+unfoldable pub held : ℕ → Lent → LentPlan → WorkSizes → Answer Planning
+held most p q work =
+    andThen (judged most p)
+    (λ pattern.
+    refuseIf (not (sizesFit p (q .stores) work)) 6 (refuseIf (not (agrees p (plan pattern) q)) 9 (granted (plan pattern))))

@@ -1,17 +1,16 @@
 -- What the job program prints, as a function of the job's bytes (document 01, "Fields worked through").
-use mathlib.Core.Bool.{Bool, cond}
+use mathlib.Core.Bool.{cond}
 use mathlib.Core.List.{List, [], _∷_, _++_}
-use Prim.Native.Nat.{ℕ, zero, suc, _+_, _-_, _/_, _%_}
+use Prim.Native.Nat.{ℕ, zero, suc, _+_, _/_, _%_}
 use lib.Dec.{ltb}
-use lib.ListN.{length}
+use lib.ListN.{replicate}
 use Rattle.lists.specs.Functions.{chain}
 use Rattle.lists.specs.Sets.{upto}
 use Rattle.foundation.specs.Answer.{Answer, refused, granted, andThen}
 use Rattle.foundation.specs.Pattern.{Lent}
-use Rattle.foundation.specs.Plan.{Planning}
 use Rattle.foundation.specs.Numbers.{bitsOf}
 use Rattle.foundation.specs.Reference.{whole, Going}
-use Rattle.foundation.specs.PlanCall.{Counts, countsOf, Sizes, planned}
+use Rattle.foundation.specs.PlanCall.{Counts, countsOf, SideStores, PlanStores, WorkSizes, planned}
 use Rattle.foundation.specs.RunCall.{Lending, Ran, ranWith}
 use Rattle.foundation.specs.Text.{ascii}
 use Rattle.foundation.specs.Job.{Job, maxJobN, readJob}
@@ -22,9 +21,16 @@ use Rattle.foundation.specs.Job.{Job, maxJobN, readJob}
 unfoldable pub jobRoom : ℕ
 jobRoom = 2048
 
--- the program's own starts and work stores have the lengths that docs/ fixes
-unfoldable pub fittingSizes : Sizes
-fittingSizes = record { ofN = []; ofNext = []; ofEntries = [] }
+-- the program's own work stores have the lengths that docs/ fixes
+unfoldable pub fittingWork : WorkSizes
+fittingWork = record { ofN = []; ofNPlusOne = []; ofEntries = [] }
+
+-- stores of a plan for n fields, with so much room for subscripts a side
+unfoldable pub blankSide : ℕ → ℕ → SideStores
+blankSide n room = record { subs = replicate room 0; starts = replicate n 0; slotStarts = replicate (suc n) 0 }
+
+unfoldable pub blankStores : ℕ → ℕ → ℕ → PlanStores
+blankStores n roomL roomU = record { lowerSide = blankSide n roomL; upperSide = blankSide n roomU }
 
 unfoldable pub jobLending : Job → Lending
 jobLending job =
@@ -42,7 +48,7 @@ jobLending job =
 -- "then as the rest": plan, then a whole run by the largest entry or by the job's list
 unfoldable pub jobRun : Job → Answer Ran
 jobRun job =
-    andThen (planned maxJobN (job .pattern) fittingSizes jobRoom jobRoom) (ranWith (job .pattern) (job .choice) whole (jobLending job))
+    andThen (planned maxJobN (job .pattern) (blankStores (job .pattern .n) jobRoom jobRoom) fittingWork) (ranWith (job .pattern) (job .choice) whole (jobLending job))
 
 -- ---- bytes
 

@@ -1,5 +1,5 @@
 -- The reference elimination on the full square of f64: row by largest magnitude or by a given list, whole or cut to its first s steps.
-use mathlib.Core.Bool.{Bool, true, false, cond, not, _&&_, _||_}
+use mathlib.Core.Bool.{Bool, true, cond, not, _&&_, _||_}
 use mathlib.Core.List.{List, [], _∷_, _++_}
 use Prim.Native.Nat.{ℕ, zero, suc, _+_}
 use lib.Dec.{eqb, ltb}
@@ -23,6 +23,7 @@ pub data Extent : Type 0 where
   whole : Extent
   cut : ℕ → Extent
 
+-- how many steps a run of that extent has
 unfoldable pub stepsOf : Extent → ℕ → ℕ
 stepsOf whole n = n
 stepsOf (cut s) n = s
@@ -33,6 +34,7 @@ stepsOf (cut s) n = s
 unfoldable pub better : (ℕ → Float) → ℕ → ℕ → ℕ
 better entry best i = cond (mayPivot (entry i) && (eqb best 0 || lt (magnitude (entry best)) (magnitude (entry i)))) i best
 
+-- the row that serves best among those found so far and the rows of a list
 unfoldable pub best : (ℕ → Float) → ℕ → List ℕ → ℕ
 best entry found [] = found
 best entry found (i ∷ rows) = best entry (better entry found i) rows
@@ -198,7 +200,7 @@ unfoldable pub ended : Extent → ℕ → Course → Course
 ended whole n c = solved n c
 ended (cut s) n c = c
 
--- The reference: "by largest magnitude or by a list; whole, or cut".
+-- Document 01, "Elimination": the reference, with its choice of rows and its extent as parameters.
 unfoldable pub reference : Choice → Extent → Pattern → Square Float → (ℕ → Float) → Course
 reference choice extent p values right =
     ended extent (p .n) (running choice (p .height) (p .n) (starting p values right) (stepsOf extent (p .n)))

@@ -1,8 +1,8 @@
 -- What a run answers and leaves in the lent stores.
-use mathlib.Core.Bool.{Bool, true, cond, not, _&&_, _||_}
+use mathlib.Core.Bool.{Bool, true, false, not, _&&_}
 use mathlib.Core.List.{List, [], _∷_, map}
 use Prim.Native.Nat.{ℕ, zero, suc, _+_}
-use lib.Dec.{eqb, ltb, leb}
+use lib.Dec.{eqb, leb}
 use lib.Ieee.{Float}
 use lib.ListN.{length, getD}
 use Rattle.lists.specs.Functions.{all}
@@ -13,9 +13,9 @@ use Rattle.foundation.specs.Plan.{Planning, Side, lower, upper}
 use Rattle.foundation.specs.Slots.{slotsOf}
 use Rattle.foundation.specs.Numbers.{plusZero, finite}
 use Rattle.foundation.specs.Square.{Square}
-use Rattle.foundation.specs.Reference.{Choice, largest, listed, Extent, whole, cut, Going, Course, going, stopped, numberOf, reference}
+use Rattle.foundation.specs.Reference.{Choice, largest, listed, Extent, whole, cut, Going, Course, going, stopped, noPivot, notFinite, numberOf, reference}
 use Rattle.foundation.specs.Shown.{shown, shownDiagonal}
-use Rattle.foundation.specs.PlanCall.{Sizes, LentPlan, held}
+use Rattle.foundation.specs.PlanCall.{WorkSizes, LentPlan, held}
 
 -- the lent values and right side, and the lengths of the lent result stores
 pub record Lending : Type 0 where
@@ -45,10 +45,12 @@ unfoldable pub rowsInRange : ℕ → ℕ → List ℕ → Bool
 rowsInRange height k [] = true
 rowsInRange height k (p ∷ ps) = (leb k p && leb p height) && rowsInRange height (suc k) ps
 
+-- the list's part of 12
 unfoldable pub choiceFits : Pattern → Choice → Bool
 choiceFits p largest = true
 choiceFits p (listed rows) = eqb (length rows) (p .n) && rowsInRange (p .height) 1 rows
 
+-- the cut's part of 12
 unfoldable pub extentFits : Pattern → Extent → Bool
 extentFits p whole = true
 extentFits p (cut s) = leb s (p .n)
@@ -88,8 +90,20 @@ ranWith p choice extent w s =
     (courseAnswer s (reference choice extent (patternOf p) (valueAt p (w .values)) (rightAt (w .right))))))
 
 -- a run on a lent plan: 1 to 6, 9, then the rest
-unfoldable pub ran : ℕ → Lent → Sizes → LentPlan → Choice → Extent → Lending → Answer Ran
-ran most p sizes q choice extent w = andThen (held most p sizes q) (ranWith p choice extent w)
+unfoldable pub ran : ℕ → Lent → LentPlan → WorkSizes → Choice → Extent → Lending → Answer Ran
+ran most p q work choice extent w = andThen (held most p q work) (ranWith p choice extent w)
+
+-- whether a course stopped with 13
+unfoldable pub lacksPivot : Course → Bool
+lacksPivot (going g) = false
+lacksPivot (stopped noPivot k) = true
+lacksPivot (stopped notFinite k) = false
+
+-- Document 01, "Free elimination", its own term: "A list that 12 lets pass is legal unless the reference with it stops with 13."
+unfoldable pub legal : Lent → Lending → List ℕ → Bool
+legal p w rows =
+    choiceFits (patternOf p) (listed rows)
+    && not (lacksPivot (reference (listed rows) whole (patternOf p) (valueAt p (w .values)) (rightAt (w .right))))
 
 -- the answer: "finished with its updates or stopped with its number and step"
 unfoldable pub runAnswer : Answer Ran → Answer ℕ
@@ -110,3 +124,22 @@ solutionAfter n room answer = resultStore plusZero room (λ r. map (r .end .righ
 -- "pivot rows are p_k up to the last step done and 0 after it"
 unfoldable pub pivotsAfter : ℕ → Answer Ran → List ℕ
 pivotsAfter room answer = resultStore 0 room (λ r. r .end .pivots) answer
+
+-- the five result stores of a run
+pub record RunStores : Type 0 where
+  pub lowerSlots : List Float
+  pub upperSlots : List Float
+  pub diagonal : List Float
+  pub solution : List Float
+  pub pivots : List ℕ
+
+-- all result stores of a run afterwards, by the lengths that were lent
+unfoldable pub runLeaves : Lent → Lending → Answer Ran → RunStores
+runLeaves p w answer =
+    record {
+      lowerSlots = slotsAfter lower (p .n) (w .lowerSlots) answer;
+      upperSlots = slotsAfter upper (p .n) (w .upperSlots) answer;
+      diagonal = diagonalAfter (p .n) (w .diagonal) answer;
+      solution = solutionAfter (p .n) (w .solution) answer;
+      pivots = pivotsAfter (w .pivots) answer;
+    }

@@ -1,7 +1,6 @@
 -- The square as the slots show it, and laid back into a square.
-use mathlib.Core.Bool.{Bool, true, false, cond}
-use mathlib.Core.List.{List, [], _∷_, map}
-use Prim.Native.Nat.{ℕ, _-_}
+use mathlib.Core.List.{List, map}
+use Prim.Native.Nat.{ℕ}
 use lib.ListN.{getD}
 use lib.Ieee.{Float}
 use Rattle.lists.specs.Functions.{chain}
@@ -21,6 +20,7 @@ atSide upper square k x = square k x
 unfoldable pub shown : Planning → Side → ℕ → Square Float → List Float
 shown s side n square = chain (λ k. map (atSide side square k) (kept s side k)) (upto n)
 
+-- "the diagonal has n slots of its own"
 unfoldable pub shownDiagonal : ℕ → Square Float → List Float
 shownDiagonal n square = map (λ i. square i i) (upto n)
 
@@ -31,5 +31,6 @@ slotRead lowers uppers diagonal (onDiagonal q) = getD diagonal q plusZero
 slotRead lowers uppers diagonal (inSide lower q) = getD lowers q plusZero
 slotRead lowers uppers diagonal (inSide upper q) = getD uppers q plusZero
 
+-- the square that these stores show
 unfoldable pub laid : Planning → List Float → List Float → List Float → Square Float
 laid s lowers uppers diagonal i j = slotRead lowers uppers diagonal (slotAt s i j)

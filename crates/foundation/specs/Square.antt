@@ -1,7 +1,7 @@
 -- Squares of numbers of any kind, by row and column, and what the float run and the free elimination do alike.
-use mathlib.Core.Bool.{Bool, cond, _&&_}
+use mathlib.Core.Bool.{cond}
 use Prim.Native.Nat.{ℕ}
-use lib.Dec.{eqb, ltb, leb}
+use lib.Dec.{eqb, leb}
 use Rattle.foundation.specs.Pattern.{Pattern, present}
 
 -- a number at each place (i, j), rows and columns from 1

@@ -1,7 +1,7 @@
 -- Quoted text as bytes.
 use mathlib.Core.List.{List, [], _∷_}
 use Prim.Native.Nat.{ℕ}
-use Prim.Native.Char.{Char, code}
+use Prim.Native.Char.{code}
 use Prim.Native.String.{String}
 
 -- the bytes of a text whose characters are all below 128
