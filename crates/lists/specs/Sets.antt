@@ -52,11 +52,12 @@ joinAll part joined (x ∷ xs) = joinAll part (union joined (part x)) xs
 unfoldable pub from : ℕ → List ℕ → List ℕ
 from k xs = keep (leb k) xs
 
--- the least member above k, 0 where there is none
+-- the first member, 0 where there is none
 unfoldable pub first : List ℕ → ℕ
 first [] = 0
 first (x ∷ xs) = x
 
+-- the least member above k, 0 where there is none
 unfoldable pub leastAbove : ℕ → List ℕ → ℕ
 leastAbove k xs = first (keep (ltb k) xs)
 
