@@ -1,0 +1,121 @@
+// The judgement of a lent pattern: refusals 1 to 5 in the table's order.
+ghost use mathlib.Core.Bool.{true, false};
+ghost use mathlib.Core.Path.{_≡_};
+ghost use Prim.Native.Nat.{_+_, _≤_, _<_};
+ghost use lib.ListN.{length};
+ghost use Rattle.lists.specs.Sets.{member};
+ghost use Rattle.foundation.specs.Pattern.{lent, startsFit, notFalling, entriesFault, rowsFault, patternFault};
+
+// Whether each start is at least the one before it.
+fn not_falling(starts: &[usize]) -> bool
+    ensures { λ r. ⌜ r ≡ notFalling 0 (now (starts .entry)) ⌝ }
+{
+    let mut last = 0;
+    let mut i = 0;
+    while i < starts.len() {
+        let start = starts[i];
+        if start < last {
+            return false;
+        }
+        last = start;
+        i += 1;
+    }
+    true
+}
+
+// Refusal 2: n+1 starts, first 0, not falling, last equal to the number of entries.
+fn starts_fit(n: usize, starts: &[usize], columns: &[usize]) -> bool
+    ensures { λ r. ⌜ r ≡ startsFit (lent n (now (starts .entry)) (now (columns .entry))) ⌝ }
+{
+    if starts.len() <= n {
+        return false;
+    }
+    if starts.len() != n + 1 {
+        return false;
+    }
+    if starts[0] != 0 {
+        return false;
+    }
+    if starts[n] != columns.len() {
+        return false;
+    }
+    not_falling(starts)
+}
+
+// Refusals 3 and 4: the first fault among a row's columns, 0 where there is none.
+fn entries_fault(n: usize, row: &[usize]) -> usize
+    ensures { λ r. ⌜ r ≡ entriesFault n 0 (now (row .entry)) ⌝ }
+{
+    let mut before = 0;
+    let mut i = 0;
+    while i < row.len() {
+        let column = row[i];
+        if column < 1 {
+            return 3;
+        }
+        if n < column {
+            return 3;
+        }
+        if column <= before {
+            return 4;
+        }
+        before = column;
+        i += 1;
+    }
+    0
+}
+
+// Whether a number is in a list.
+fn holds(list: &[usize], x: usize) -> bool
+    ensures { λ r. ⌜ r ≡ member x (now (list .entry)) ⌝ }
+{
+    let mut i = 0;
+    while i < list.len() {
+        if list[i] == x {
+            return true;
+        }
+        i += 1;
+    }
+    false
+}
+
+// Refusals 3, 4 and 5 of all rows, row by row: the first fault, 0 where there is none.
+fn rows_fault(n: usize, starts: &[usize], columns: &[usize]) -> usize
+    requires { ⌜ startsFit (lent n (now starts) (now columns)) ≡ true ⌝ }
+    ensures { λ r. ⌜ r ≡ rowsFault (lent n (now (starts .entry)) (now (columns .entry))) 1 n ⌝ }
+{
+    let mut i = 0;
+    while i < n {
+        let from = starts[i];
+        let to = starts[i + 1];
+        let row = &columns[from..to];
+        let fault = entries_fault(n, row);
+        if fault != 0 {
+            return fault;
+        }
+        if !holds(row, i + 1) {
+            return 5;
+        }
+        i += 1;
+    }
+    0
+}
+
+// The first of refusals 1 to 5 that is given, 0 where the pattern passes. `most` is the largest n.
+pub fn pattern_fault(most: usize, n: usize, starts: &[usize], columns: &[usize]) -> usize
+    ensures { λ r. ⌜ r ≡ patternFault most (lent n (now (starts .entry)) (now (columns .entry))) ⌝ }
+{
+    if n == 0 {
+        return 1;
+    }
+    if most < n {
+        return 1;
+    }
+    if 16384 < columns.len() {
+        return 1;
+    }
+    if !starts_fit(n, starts, columns) {
+        return 2;
+    }
+    rows_fault(n, starts, columns)
+}
