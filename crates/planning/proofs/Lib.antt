@@ -10,3 +10,4 @@ pub mod Placing
 pub mod Turning
 pub mod Lists
 pub mod Coursing
+pub mod Agreeing

@@ -3,7 +3,6 @@ use mathlib.Core.Bool.{true}
 use mathlib.Core.List.{List, [], _∷_, _++_, append-nil}
 use mathlib.Core.Path.{_≡_, refl, sym, ap, _∙_}
 use Prim.Native.Nat.{ℕ, zero, suc, _+_, _-_, _*_, _≤_, _<_}
-use native.Mathlib.Decide.{decLe}
 use native.Mathlib.Nat.{add-zero}
 use native.Mathlib.Numerals.{add-one}
 use native.Mathlib.Omega.{arith}
@@ -27,7 +26,7 @@ use Rattle.planning.specs.Sharing.{LastInside, lastShared, Writable, Wri
 use Rattle.planning.specs.declared.side.Placed.{Placed}
 use Rattle.planning.specs.declared.side.Placed.the-variants.{End, Short}
 use Rattle.planning.proofs.Known.{facts, kept-length, Opened, known-opens}
-use Rattle.planning.proofs.Holding.{used-none, used-next, holding-first, holding-known, holding-next}
+use Rattle.planning.proofs.Holding.{used-none, used-next, holding-known, holding-next}
 use Rattle.planning.proofs.Sharing.{empty-length, not-empty-length, added-few, shared-new, shared-old, last-shared, used-written, too-long, holding-written}
 
 -- ---- sizes
@@ -53,6 +52,51 @@ module _ (p : Lent) (ok : Ready p) (side : Side) where
   unfolding planOf patternOf used
   lies-at k l h g = all-lie (planOf p) side (p .n) (facts p ok .sole side) (nothing-kept (patternOf p) side) k l h g .inside
 
+-- the list of step k - 1, if there is one, lies in stores that begin with the steps before k
+pub known-inside :
+    (p : Lent) → Ready p → (side : Side) (n k : ℕ) (subs starts slots : List ℕ) → p .n ≡ n → 1 ≤ k → k ≤ n
+    → Known (planOf p) side n (k - 1) subs starts slots → LastInside k subs starts slots
+known-inside p ok side n k subs starts slots same low high known =
+    let two : k - 2 ≡ k - 1 - 1 = omega arith in
+    let opens : 2 ≤ k → Opened (planOf p) side (k - 1) subs starts slots = λ later.
+    known-opens p ok side n (k - 1) same (omega arith) known (k - 1) (omega arith) (omega arith) in
+    record {
+      step = low;
+      starts-size = omega arith;
+      slots-size = omega arith;
+      rising = λ later. rw two (opens later .rising);
+      inside = λ later. rw two (opens later .inside);
+    }
+
+-- what the list of step k shares by the stores that begin with the steps before it, and that it can be looked up or written there
+module _ (p : Lent) (ok : Ready p) (side : Side) (n k t : ℕ) (new subs starts slots : List ℕ) (end : ℕ) (same : p .n ≡ n) (low : 1 ≤ k) (high : k ≤ n)
+    (known : Known (planOf p) side n (k - 1) subs starts slots) (new-is : new ≡ kept (planOf p) side k)
+    (end-is : end ≡ used (planOf p) side (k - 1)) (shares : t ≡ lastShared k new subs starts slots end) where
+  pub known-shares : t ≡ sharedEnd (shared (planOf p) side (k - 1)) (k - 1) (kept (planOf p) side (k - 1)) new
+  known-shares = shares ∙ rw end-is (last-shared p ok side n k new subs starts slots same low high known)
+
+  pub known-writable : Writable k t new subs starts slots end
+  unfolding used
+  known-writable =
+      let s : Planning = planOf p in
+      let few = ok .few in
+      record {
+        step = low;
+        starts-size = omega arith;
+        slots-size = omega arith;
+        end-inside = omega arith;
+        shared-new = omega (arith, known-shares, shared-new (shared s side (k - 1)) (k - 1) (kept s side (k - 1)) new);
+        shared-end = omega (arith, known-shares, shared-old (shared s side (k - 1)) (k - 1) (kept s side (k - 1)) new);
+        small =
+            omega (
+              arith,
+              known .slots-at (k - 1) (omega arith),
+              slots-few p ok side (k - 1) (omega arith),
+              kept-length p ok side k (omega arith),
+              ap length new-is,
+            );
+      }
+
 -- ---- a list that is no rest
 
 -- where a list was written and the store kept its length, the list fits
@@ -69,61 +113,17 @@ module _ (p : Lent) (side : Side) (n k : ℕ) (new subs starts slots : List ℕ)
 
   -- the list of step k - 1 lies in the store
   pub placing-inside : LastInside k subs starts slots
-  placing-inside =
-      let known : Known (planOf p) side n (k - 1) subs starts slots = placing-known in
-      elim (decLe 2 k) [
-        | yes later ↦
-            let o : Opened (planOf p) side (k - 1) subs starts slots =
-            known-opens p (h .ready) side n (k - 1) (h .same-n) (omega arith) known (k - 1) (omega arith) (omega arith) in
-            let two : k - 2 ≡ k - 1 - 1 = omega arith in
-            record {
-              step = h .low;
-              starts-size = omega arith;
-              slots-size = omega arith;
-              rising = rw two (o .rising);
-              inside = rw two (o .inside);
-            }
-        | no first ↦
-            let one : k - 1 ≡ 0 = omega arith in
-            let two : k - 2 ≡ 0 = omega arith in
-            let none : getD starts 0 0 ≡ 0 = holding-first (planOf p) side n (length subs) subs starts slots (rw one at (h .holding)) in
-            record {
-              step = h .low;
-              starts-size = omega arith;
-              slots-size = omega arith;
-              rising = rw (one, two) (omega arith);
-              inside = rw (one, two, none) (omega arith);
-            }
-      ]
+  placing-inside = known-inside p (h .ready) side n k subs starts slots (h .same-n) (h .low) (h .high) placing-known
 
   module _ (t : ℕ) (shares : t ≡ lastShared k new subs starts slots end) where
     placing-shares : t ≡ sharedEnd (shared (planOf p) side (k - 1)) (k - 1) (kept (planOf p) side (k - 1)) new
     placing-shares =
-        shares ∙ rw (h .end-is) (last-shared p (h .ready) side n k new subs starts slots (h .same-n) (h .low) (h .high) placing-known)
+        known-shares p (h .ready) side n k t new subs starts slots end (h .same-n) (h .low) (h .high) placing-known (h .new-is) (h .end-is) shares
 
     -- the list can be written
     pub placing-writable : Writable k t new subs starts slots end
-    unfolding used
     placing-writable =
-        let s : Planning = planOf p in
-        let known : Known s side n (k - 1) subs starts slots = placing-known in
-        let few = h .ready .few in
-        record {
-          step = h .low;
-          starts-size = omega arith;
-          slots-size = omega arith;
-          end-inside = omega arith;
-          shared-new = omega (arith, placing-shares, shared-new (shared s side (k - 1)) (k - 1) (kept s side (k - 1)) new);
-          shared-end = omega (arith, placing-shares, shared-old (shared s side (k - 1)) (k - 1) (kept s side (k - 1)) new);
-          small =
-              omega (
-                arith,
-                known .slots-at (k - 1) (omega arith),
-                slots-few p (h .ready) side (k - 1) (omega arith),
-                kept-length p (h .ready) side k (omega arith),
-                ap length (h .new-is),
-              );
-        }
+        known-writable p (h .ready) side n k t new subs starts slots end (h .same-n) (h .low) (h .high) placing-known (h .new-is) (h .end-is) shares
 
     -- what was written holds step k, or the plan does not fit
     pub placing-placed :
@@ -152,27 +152,23 @@ module _ (l end : ℕ) (starts slots : List ℕ) where
   unfolding soleStart
   sole-behind e = rw (ne-eqb (span slots l) 1 e)
 
-module _ (p : Lent) (ok : Ready p) (side : Side) (n k l room : ℕ) (subs starts slots : List ℕ) (same : p .n ≡ n) (low : 1 ≤ k) (high : k ≤ n)
-    (holds : Holding (planOf p) side n (k - 1) room subs starts slots) (sole-is : l ≡ soleStep (planOf p) k) (some : 0 < l) where
+module _ (p : Lent) (ok : Ready p) (side : Side) (n k l : ℕ) (subs starts slots : List ℕ) (same : p .n ≡ n) (low : 1 ≤ k) (high : k ≤ n)
+    (known : Known (planOf p) side n (k - 1) subs starts slots) (sole-is : l ≡ soleStep (planOf p) k) (some : 0 < l) where
   -- what is known of l: it is earlier, and its list is k and then k's
   sole-facts : (l < k) × (kept (planOf p) side l ≡ k ∷ kept (planOf p) side k)
   unfolding patternOf
   sole-facts = rw (← sole-is) at (facts p ok .sole side k low (omega arith) (rw (← sole-is) some))
 
-  sole-known : Known (planOf p) side n (k - 1) subs starts slots
-  sole-known = holding-known (planOf p) side n (k - 1) room subs starts slots holds (omega arith)
-
   -- l has one slot more than k
-  sole-span : span slots l ≡ length (kept (planOf p) side k) + 1
+  pub sole-span : span slots l ≡ length (kept (planOf p) side k) + 1
   sole-span =
       let (before, is) = sole-facts in
-      known-opens p ok side n (k - 1) same (omega arith) sole-known l some (omega arith) .count ∙ ap length is ∙ sym (add-one _)
+      known-opens p ok side n (k - 1) same (omega arith) known l some (omega arith) .count ∙ ap length is ∙ sym (add-one _)
 
   -- the start of l and the slots of k can be noted
-  pub sole-ready : SoleReady k l starts slots
-  sole-ready =
+  pub known-sole-ready : SoleReady k l starts slots
+  known-sole-ready =
       let s : Planning = planOf p in
-      let known : Known s side n (k - 1) subs starts slots = sole-known in
       let (before, is) = sole-facts in
       let few = ok .few in
       let width : span slots l ≡ length (kept s side k) + 1 = sole-span in
@@ -196,21 +192,21 @@ module _ (p : Lent) (ok : Ready p) (side : Side) (n k l room : ℕ) (subs starts
   is-sole = rw (this, ← sole-is) (lt-ltb 0 l some)
 
   -- nothing is added
-  sole-added : addedAt (planOf p) side (shared (planOf p) side (k - 1)) (k - 1) ≡ []
+  pub sole-added : addedAt (planOf p) side (shared (planOf p) side (k - 1)) (k - 1) ≡ []
   sole-added =
       by-test (empty (kept (planOf p) side (suc (k - 1))))
       (λ e. added-empty (planOf p) side (shared (planOf p) side (k - 1)) (k - 1) e)
       (λ e. added-sole (planOf p) side (shared (planOf p) side (k - 1)) (k - 1) e is-sole)
 
   -- the start is the one that is noted
-  sole-start :
+  pub sole-start :
       (end : ℕ) → end ≡ used (planOf p) side (k - 1)
       → startAt (planOf p) side (shared (planOf p) side (k - 1)) (k - 1) ≡ soleStart l starts slots end
   unfolding used
   sole-start end end-is =
       let s : Planning = planOf p in
       let width : span slots l ≡ length (kept s side k) + 1 = sole-span in
-      let start : getD starts (l - 1) 0 ≡ (shared s side (k - 1)) .start l = sole-known .starts-at l some (omega (arith, sole-facts .0)) in
+      let start : getD starts (l - 1) 0 ≡ (shared s side (k - 1)) .start l = known .starts-at l some (omega (arith, sole-facts .0)) in
       by-test (empty (kept s side (suc (k - 1))))
       (λ e.
       let none : length (kept s side k) ≡ 0 = rw this at (empty-length _ e) in
@@ -221,8 +217,21 @@ module _ (p : Lent) (ok : Ready p) (side : Side) (n k l room : ℕ) (subs starts
       (sym (sole-behind l end starts slots (λ f. omega arith))))
 
   -- the store stays as long as it is
+  pub known-used-sole : used (planOf p) side k ≡ used (planOf p) side (k - 1)
+  known-used-sole = rw this at (used-next (planOf p) side (k - 1) [] sole-added) ∙ add-zero _
+
+module _ (p : Lent) (ok : Ready p) (side : Side) (n k l room : ℕ) (subs starts slots : List ℕ) (same : p .n ≡ n) (low : 1 ≤ k) (high : k ≤ n)
+    (holds : Holding (planOf p) side n (k - 1) room subs starts slots) (sole-is : l ≡ soleStep (planOf p) k) (some : 0 < l) where
+  sole-known : Known (planOf p) side n (k - 1) subs starts slots
+  sole-known = holding-known (planOf p) side n (k - 1) room subs starts slots holds (omega arith)
+
+  -- the start of l and the slots of k can be noted
+  pub sole-ready : SoleReady k l starts slots
+  sole-ready = known-sole-ready p ok side n k l subs starts slots same low high sole-known sole-is some
+
+  -- the store stays as long as it is
   pub used-sole : used (planOf p) side k ≡ used (planOf p) side (k - 1)
-  used-sole = rw this at (used-next (planOf p) side (k - 1) [] sole-added) ∙ add-zero _
+  used-sole = known-used-sole p ok side n k l subs starts slots same low high sole-known sole-is some
 
   -- with the start and the end of the slots noted, the stores hold step k too
   pub holding-sole :
@@ -230,9 +239,11 @@ module _ (p : Lent) (ok : Ready p) (side : Side) (n k l room : ℕ) (subs starts
       → Holding (planOf p) side n k room subs (set starts (k - 1) (soleStart l starts slots end)) (set slots k (getD slots (k - 1) 0 + (span slots l - 1)))
   holding-sole end end-is =
       let s : Planning = planOf p in
-      let width : span slots l - 1 ≡ length (kept s side k) = omega (arith, sole-span) in
+      let this : suc (k - 1) ≡ k = omega arith in
+      let width : span slots l - 1 ≡ length (kept s side k) = omega (arith, sole-span p ok side n k l subs starts slots same low high sole-known sole-is some) in
       let fits = holds .fits in
       rw width
       (rw (this, add-zero, append-nil, take-append-drop) at
-      (holding-next s side n (k - 1) room subs starts slots holds [] (soleStart l starts slots end) (omega arith) sole-added (sole-start end end-is)
-      (omega arith)))
+      (holding-next s side n (k - 1) room subs starts slots holds [] (soleStart l starts slots end) (omega arith)
+      (sole-added p ok side n k l subs starts slots same low high sole-known sole-is some)
+      (sole-start p ok side n k l subs starts slots same low high sole-known sole-is some end end-is) (omega arith)))

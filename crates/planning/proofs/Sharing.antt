@@ -124,10 +124,12 @@ module _ (s : Planning) (side : Side) (n k t end : ℕ) (new : List ℕ) (low : 
   this : suc (k - 1) ≡ k
   this = omega arith
 
-  written-added : addedAt s side (shared s side (k - 1)) (k - 1) ≡ drop t new
+  -- it adds what it does not share
+  pub written-added : addedAt s side (shared s side (k - 1)) (k - 1) ≡ drop t new
   written-added = rw (this, ← new-is, ← shares) at (joined-added s side (k - 1) (rw this not-sole))
 
-  written-start : startAt s side (shared s side (k - 1)) (k - 1) ≡ end - t
+  -- it starts before the store's end by as much as is shared
+  pub written-start : startAt s side (shared s side (k - 1)) (k - 1) ≡ end - t
   written-start = rw (this, ← new-is, ← shares, ← end-is) at (joined-start s side (k - 1) (rw this not-sole))
 
   -- how long the store is once the rest of the list is added
@@ -157,8 +159,8 @@ module _ (k count end : ℕ) (new subs starts slots : List ℕ) (reads : count �
       rw two reads
 
   -- the list of step k - 1 ends in the store
-  pub last-ends : LastInside k subs starts slots → getD starts (k - 2) 0 + count ≤ length subs
-  last-ends h = rw last-span (h .inside)
+  pub last-ends : LastInside k subs starts slots → 2 ≤ k → getD starts (k - 2) 0 + count ≤ length subs
+  last-ends h later = rw last-span (h .inside later)
 
   -- it does not end at the store's end
   pub last-apart : (getD starts (k - 2) 0 + count ≡ end → ⊥) → lastShared k new subs starts slots end ≡ 0

@@ -8,3 +8,4 @@ pub mod Known
 pub mod Sharing
 pub mod Turn
 pub mod Course
+pub mod Agreeing

@@ -20,8 +20,8 @@ pub record LastInside (k : ℕ) (subs starts slots : List ℕ) : Type 0 where
   pub step : 1 ≤ k
   pub starts-size : k ≤ length starts
   pub slots-size : k < length slots
-  pub rising : getD slots (k - 2) 0 ≤ getD slots (k - 1) 0
-  pub inside : getD starts (k - 2) 0 + span slots (k - 1) ≤ length subs
+  pub rising : 2 ≤ k → getD slots (k - 2) 0 ≤ getD slots (k - 1) 0
+  pub inside : 2 ≤ k → getD starts (k - 2) 0 + span slots (k - 1) ≤ length subs
 
 -- How many subscripts a new list shares with the end of the store, by what the stores say of step k-1.
 unfoldable pub lastShared : ℕ → List ℕ → List ℕ → List ℕ → List ℕ → ℕ → ℕ

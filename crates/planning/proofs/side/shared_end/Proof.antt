@@ -32,12 +32,12 @@ shared-slice-read-t19 : tie.Need-shared-slice-read-t19
 shared-slice-read-t19 c = search needs
 
 slots-between-requires : tie.Need-slots-between-requires
-slots-between-requires c κs = search needs
+slots-between-requires c κs = c .before .before .before .before .before .before .before .before .pre .rising (omega arith)
 
 add-if2 : tie.Need-add-if2
 add-if2 c =
     let a = c .before .before .before .before .before .before .before .before .before in
-    let ends = last-ends _ _ 0 [] _ _ _ (c .slots-between .ensures) (a .pre) in
+    let ends = last-ends _ _ 0 [] _ _ _ (c .slots-between .ensures) (a .pre) (omega arith) in
     omega arith
 
 returns-2 : tie.Need-returns-2
@@ -46,7 +46,7 @@ returns-2 c = sym (last-apart _ _ _ _ _ _ _ (c .before .before .slots-between .e
 list-at-requires : tie.Need-list-at-requires
 list-at-requires c κs =
     let a = c .before .before .before .before .before .before .before .before .before .before .before in
-    last-ends _ _ 0 [] _ _ _ (c .before .before .slots-between .ensures) (a .pre)
+    last-ends _ _ 0 [] _ _ _ (c .before .before .slots-between .ensures) (a .pre) (omega arith)
 
 longest-shared-requires : tie.Need-longest-shared-requires
 longest-shared-requires c κs = search needs
