@@ -11,3 +11,4 @@ pub mod Turning
 pub mod Lists
 pub mod Coursing
 pub mod Agreeing
+pub mod Answering

@@ -9,3 +9,5 @@ pub mod Sharing
 pub mod Turn
 pub mod Course
 pub mod Agreeing
+pub mod Calls
+pub mod Made
