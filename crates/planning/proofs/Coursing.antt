@@ -118,14 +118,14 @@ module _ (p : Lent) (n k : ℕ) (rowHeads rowLinks setHeads setLinks : List ℕ)
       sym (S-frame (patternOf p) (p .n) (k - 1) k (step .low) (omega arith) (omega arith))
 
   -- the heads at a step lead to its rows and to its set
-  chains-at : ChainsOf p k (getD rowHeads k 0) rowLinks (getD setHeads k 0) setLinks
+  pub chains-at : ChainsOf p k (getD rowHeads k 0) rowLinks (getD setHeads k 0) setLinks
   chains-at = record {
     rows = chains .row-chains .chain-at k (step .low) (step .high);
     steps = rw set-whole at (chains .set-chains .chain-at k (step .low) (step .high));
   }
 
   -- its set starts inside the links
-  set-inside : getD setHeads k 0 < length setLinks
+  pub set-inside : getD setHeads k 0 < length setLinks
   set-inside =
       linked-below setLinks (getD setHeads k 0) (planOf p .S k) (chains-at .steps) (omega (arith, chains .set-chains .links-size))
 
@@ -153,7 +153,7 @@ module _ (p : Lent) (n k roomL roomU : ℕ) (lSubs lStarts lSlots uSubs uStarts 
   }
 
 -- before the first step nothing is used, and the columns alone are read
-ends-none : (p : Lent) (l u reads : ℕ) → l ≡ 0 → u ≡ 0 → reads ≡ length (p .columns) → EndsAre p 0 l u reads
+pub ends-none : (p : Lent) (l u reads : ℕ) → l ≡ 0 → u ≡ 0 → reads ≡ length (p .columns) → EndsAre p 0 l u reads
 ends-none p l u reads a b c = record {
   lower-end = a ∙ sym (used-none (planOf p) lower);
   upper-end = b ∙ sym (used-none (planOf p) upper);
@@ -200,7 +200,7 @@ hand-asks (step, chains) both = (
 
 module _ {p : Lent} {n k l u reads more : ℕ} (step : StepOf p n k) (ends : EndsAre p (k - 1) l u reads) (added : more ≡ moreReads p k) where
   -- the reads so far and its own are the reads after it
-  reads-more : reads + more ≡ readsSoFar p k
+  pub reads-more : reads + more ≡ readsSoFar p k
   reads-more = omega (arith, reads-next p k (step .low), ends .read)
 
   -- which are few

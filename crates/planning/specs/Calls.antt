@@ -1,17 +1,18 @@
 -- What the open functions answer and leave: their enums by document 01's numbers, and the lent stores as records.
-use mathlib.Core.Bool.{Bool, _&&_}
 use mathlib.Core.List.{List, [], _∷_}
 use mathlib.Core.Path.{_≡_}
-use Prim.Native.Nat.{ℕ, suc}
-use lib.Dec.{eqb}
+use Prim.Native.Nat.{ℕ}
 use lib.ListN.{length}
-use Rattle.foundation.specs.Answer.{Answer, refused, granted, workStore}
-use Rattle.foundation.specs.PlanCall.{Counts, PlanStores, SideStores, WorkSizes}
+use Rattle.foundation.specs.Answer.{Answer, refused, granted, andThen, workStore}
+use Rattle.foundation.specs.Plan.{Planning}
+use Rattle.foundation.specs.PlanCall.{Counts, PlanStores, LentPlan, WorkSizes}
 use Rattle.planning.specs.declared.PlanCounts.{PlanCounts}
 use Rattle.planning.specs.declared.Refusal.{Refusal}
 use Rattle.planning.specs.declared.Refusal.the-variants.{Limits, Starts, Column, Order, Diagonal, Stores, LowerRoom, UpperRoom, OtherPlan}
 use Rattle.planning.specs.declared.PlanAnswer.{PlanAnswer}
 use Rattle.planning.specs.declared.PlanAnswer.the-variants.{Planned, Refused}
+use Rattle.planning.specs.declared.HoldAnswer.{HoldAnswer}
+use Rattle.planning.specs.declared.HoldAnswer.the-variants.{Agrees, Refused as NotHeld}
 
 -- Document 01, "Where each refusal is checked": the number and step of each case.
 unfoldable pub refusalOf {ℓ} : {A : Type ℓ} → Refusal → Answer A
@@ -43,6 +44,14 @@ unfoldable pub answerOf : PlanAnswer → Answer Counts
 answerOf (Planned c) = granted (countsIn c)
 answerOf (Refused r) = refusalOf r
 
+-- what the answer about a lent plan says: nothing but that it is this pattern's plan, or the refusal
+unfoldable pub holdAnswerOf : HoldAnswer → Answer (Unit {0})
+holdAnswerOf Agrees = granted tt
+holdAnswerOf (NotHeld r) = refusalOf r
+
+unfoldable pub holdAnswer : Answer Planning → Answer (Unit {0})
+holdAnswer answer = andThen answer (λ s. granted tt)
+
 -- the six stores of a plan, as lent
 abbrev pub planStores : (lSubs lStarts lSlots uSubs uStarts uSlots : List ℕ) → PlanStores
 planStores lSubs lStarts lSlots uSubs uStarts uSlots =
@@ -50,6 +59,10 @@ planStores lSubs lStarts lSlots uSubs uStarts uSlots =
       lowerSide = record { subs = lSubs; starts = lStarts; slotStarts = lSlots };
       upperSide = record { subs = uSubs; starts = uStarts; slotStarts = uSlots };
     }
+
+-- a lent plan
+abbrev pub lentPlan : PlanCounts → PlanStores → LentPlan
+lentPlan counts stores = record { counts = countsIn counts; stores = stores }
 
 -- The work stores: the chains of the rows and of the sets S have n+1 places each, the two stores in which a list grows n.
 abbrev pub workSizes : (rowHeads rowLinks setHeads setLinks list spare : List ℕ) → WorkSizes

@@ -1,14 +1,13 @@
 // Whether the stores of a lent plan agree with this pattern's plan at a step, all steps before it having been found equal.
-ghost use mathlib.Core.Bool.{Bool, true, false};
+ghost use mathlib.Core.Bool.{true, false};
 ghost use mathlib.Core.Path.{_≡_};
-ghost use Prim.Native.Nat.{ℕ, _+_, _-_, _≤_, _<_};
-ghost use lib.ListN.{length, take, drop, getD};
+ghost use Prim.Native.Nat.{_+_, _-_, _≤_, _<_};
+ghost use lib.ListN.{length, take, drop};
 ghost use Rattle.lists.specs.Functions.{same};
 ghost use Rattle.foundation.specs.Pattern.{Lent, lent};
 ghost use Rattle.foundation.specs.Plan.{Side, lower, upper};
 ghost use Rattle.foundation.specs.Subscripts.{soleStep};
 ghost use Rattle.planning.specs.Ready.{planOf, sideOf};
-ghost use Rattle.planning.specs.Chains.{span};
 ghost use Rattle.planning.specs.Known.{used, Known};
 ghost use Rattle.planning.specs.Sharing.{SoleReady};
 ghost use Rattle.planning.specs.Turn.{StepOf, ChainsOf};

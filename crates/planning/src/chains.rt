@@ -2,7 +2,7 @@
 // has behind each member the next one, 0 at the end. Who joins last stands first.
 ghost use mathlib.Core.List.{List};
 ghost use mathlib.Core.Path.{_≡_};
-ghost use Prim.Native.Nat.{ℕ, suc, _≤_, _<_};
+ghost use Prim.Native.Nat.{ℕ, suc, _<_};
 ghost use lib.ListN.{length, set, getD, replicate};
 ghost use Rattle.lists.specs.Functions.{total};
 ghost use Rattle.foundation.specs.Pattern.{lent};

@@ -1,13 +1,13 @@
 // The kept list of a step, gathered from the rows first met and from the steps that were handed on (report, 2.1 to 2.4). It grows by
 // unions, from one of two stores into the other.
-ghost use mathlib.Core.Bool.{Bool, true, false};
-ghost use mathlib.Core.List.{List, []};
+ghost use mathlib.Core.Bool.{true, false};
+ghost use mathlib.Core.List.{List};
 ghost use mathlib.Core.Path.{_≡_};
 ghost use Prim.Native.Nat.{ℕ, suc, _-_, _≤_, _<_};
 ghost use lib.ListN.{length};
 ghost use Rattle.lists.specs.Sets.{union};
 ghost use Rattle.foundation.specs.Pattern.{Lent, lent, patternOf};
-ghost use Rattle.foundation.specs.Plan.{Side, fromRows};
+ghost use Rattle.foundation.specs.Plan.{fromRows};
 ghost use Rattle.foundation.specs.Subscripts.{kept};
 ghost use Rattle.planning.specs.Ready.{Ready, planOf, sideOf};
 ghost use Rattle.planning.specs.Chains.{Linked};

@@ -1,8 +1,7 @@
 // The judgement of a lent pattern: refusals 1 to 5 in the table's order.
 ghost use mathlib.Core.Bool.{true, false};
 ghost use mathlib.Core.Path.{_≡_};
-ghost use Prim.Native.Nat.{_+_, _≤_, _<_};
-ghost use lib.ListN.{length};
+ghost use Prim.Native.Nat.{_+_, _<_};
 ghost use Rattle.lists.specs.Sets.{member};
 ghost use Rattle.foundation.specs.Pattern.{lent, startsFit, notFalling, entriesFault, rowsFault, patternFault};
 

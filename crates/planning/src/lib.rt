@@ -3,15 +3,15 @@
 // `plan` makes the plan of a pattern in stores that the caller lends, or refuses. Every inner function that has a `requires` stands in
 // a module of its own that no other crate can name.
 ghost use mathlib.Core.Path.{_≡_};
-ghost use lib.ListN.{length};
 ghost use Rattle.foundation.specs.Pattern.{lent};
-ghost use Rattle.foundation.specs.PlanCall.{planned, planAnswer, planLeaves};
-ghost use Rattle.planning.specs.Calls.{answerOf, planStores, workSizes, WorkLeft};
+ghost use Rattle.foundation.specs.PlanCall.{planned, planAnswer, planLeaves, held};
+ghost use Rattle.planning.specs.Calls.{answerOf, holdAnswerOf, holdAnswer, lentPlan, planStores, workSizes, WorkLeft};
 
 mod agree;
 mod chains;
 mod clear;
 mod gather;
+mod held;
 mod judge;
 mod made;
 mod merge;
@@ -51,6 +51,12 @@ pub enum Refusal {
 // A planning call's answer.
 pub enum PlanAnswer {
     Planned(PlanCounts),
+    Refused(Refusal),
+}
+
+// The answer about a lent plan.
+pub enum HoldAnswer {
+    Agrees,
     Refused(Refusal),
 }
 
@@ -105,5 +111,53 @@ pub fn plan(
         clear::clear_side(u_subs, u_starts, u_slots);
         return PlanAnswer::Refused(refusal);
     }
+    answer
+}
+
+// Whether a lent plan, its counts and its stores, is the plan of this pattern: it agrees, or one of the refusals 1 to 6 or 9. The work stores
+// are those of `plan`.
+pub fn hold(
+    most: usize,
+    n: usize,
+    starts: &[usize],
+    columns: &[usize],
+    counts: PlanCounts,
+    l_subs: &[usize],
+    l_starts: &[usize],
+    l_slots: &[usize],
+    u_subs: &[usize],
+    u_starts: &[usize],
+    u_slots: &[usize],
+    row_heads: &mut [usize],
+    row_links: &mut [usize],
+    set_heads: &mut [usize],
+    set_links: &mut [usize],
+    list: &mut [usize],
+    spare: &mut [usize],
+) -> HoldAnswer
+    ensures answer { λ r. ⌜ holdAnswerOf r ≡ holdAnswer (held most (lent n (now (starts .entry)) (now (columns .entry))) (lentPlan counts (planStores (now («l_subs» .entry)) (now («l_starts» .entry)) (now («l_slots» .entry)) (now («u_subs» .entry)) (now («u_starts» .entry)) (now («u_slots» .entry)))) (workSizes (now («row_heads» .entry)) (now («row_links» .entry)) (now («set_heads» .entry)) (now («set_links» .entry)) (now (list .entry)) (now (spare .entry)))) ⌝ }
+    ensures work { λ r. ⌜ WorkLeft (now («row_heads» .entry)) (now («row_heads» .exit)) (now («row_links» .entry)) (now («row_links» .exit)) (now («set_heads» .entry)) (now («set_heads» .exit)) (now («set_links» .entry)) (now («set_links» .exit)) (now (list .entry)) (now (list .exit)) (now (spare .entry)) (now (spare .exit)) ⌝ }
+{
+    clear::clear_work(row_heads, row_links, set_heads, set_links, list, spare);
+    let answer = held::hold_cleared(
+        most,
+        n,
+        starts,
+        columns,
+        counts,
+        l_subs,
+        l_starts,
+        l_slots,
+        u_subs,
+        u_starts,
+        u_slots,
+        row_heads,
+        row_links,
+        set_heads,
+        set_links,
+        list,
+        spare,
+    );
+    clear::clear_work(row_heads, row_links, set_heads, set_links, list, spare);
     answer
 }

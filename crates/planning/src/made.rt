@@ -1,8 +1,8 @@
 // A plan made in cleared stores: the judgement, the stores' lengths, then the steps. It only answers; who calls it clears what a refusal
 // leaves behind.
 ghost use mathlib.Core.Path.{_≡_};
-ghost use Prim.Native.Nat.{ℕ, _≤_};
-ghost use lib.ListN.{length, replicate};
+ghost use Prim.Native.Nat.{_≤_};
+ghost use lib.ListN.{length};
 ghost use Rattle.foundation.specs.Answer.{refused};
 ghost use Rattle.foundation.specs.Pattern.{lent};
 ghost use Rattle.foundation.specs.PlanCall.{Counts, planned, planAnswer};
@@ -17,7 +17,7 @@ use crate::steps::Ended;
 use crate::steps::plan_steps;
 
 // A refusal of the pattern by its number.
-fn refusal_of(fault: usize) -> Refusal
+pub fn refusal_of(fault: usize) -> Refusal
     requires { ⌜ (1 ≤ fault) × (fault ≤ 5) ⌝ }
     ensures { λ r. ⌜ refusalOf {A = Counts} r ≡ refused fault 0 ⌝ }
 {
@@ -31,7 +31,7 @@ fn refusal_of(fault: usize) -> Refusal
 }
 
 // Refusal 6: whether the starts and the work stores have the lengths that docs/ fixes.
-fn lengths_fit(
+pub fn lengths_fit(
     n: usize,
     l_starts: usize,
     l_slots: usize,

@@ -1,6 +1,6 @@
 // How a step's kept list is put into the stores of its side: shared subscripts (report, section 3.1) and the starts of its value slots.
 ghost use mathlib.Core.Path.{_≡_};
-ghost use Prim.Native.Nat.{ℕ, _+_, _-_, _≤_, _<_};
+ghost use Prim.Native.Nat.{_+_, _-_, _<_};
 ghost use lib.ListN.{length, set, getD};
 ghost use Rattle.foundation.specs.Pattern.{Lent};
 ghost use Rattle.foundation.specs.Plan.{Side};

@@ -1,13 +1,13 @@
 // One step of planning, in the report's order (2.1 to 2.5).
 ghost use mathlib.Core.Bool.{true, false};
 ghost use mathlib.Core.Path.{_≡_};
-ghost use Prim.Native.Nat.{ℕ, suc, _+_, _-_, _≤_, _<_};
+ghost use Prim.Native.Nat.{suc, _+_, _-_, _<_};
 ghost use lib.ListN.{length, getD};
-ghost use Rattle.foundation.specs.Pattern.{Lent, lent, patternOf};
-ghost use Rattle.foundation.specs.Plan.{Side, lower, upper, after};
+ghost use Rattle.foundation.specs.Pattern.{lent, patternOf};
+ghost use Rattle.foundation.specs.Plan.{lower, upper, after};
 ghost use Rattle.foundation.specs.Subscripts.{soleStep};
 ghost use Rattle.planning.specs.Ready.{planOf, sideOf};
-ghost use Rattle.planning.specs.Chains.{Linked, Chained};
+ghost use Rattle.planning.specs.Chains.{Chained};
 ghost use Rattle.planning.specs.Known.{used, Known, Holding};
 ghost use Rattle.planning.specs.Sharing.{PlacedAs};
 ghost use Rattle.planning.specs.Turn.{soleOf, StepOf, ChainsOf, SlotsKnown, moreReads, BothHold, ListsAs};
