@@ -3,7 +3,7 @@ use mathlib.Core.Bool.{Bool, true, false, cond, _&&_, _||_, true≢false}
 use mathlib.Core.List.{List, [], _∷_}
 use mathlib.Core.Logic.{⊎-elim}
 use mathlib.Core.Path.{_≡_, refl, sym, ap, _∙_}
-use Prim.Native.Nat.{ℕ, zero, suc, _+_, _-_, _≤_, _<_}
+use Prim.Native.Nat.{ℕ, zero, suc, _+_, _-_, _≤_, _<_, min}
 use native.Mathlib.Omega.{arith}
 use lib.Dec.{eqb, ltb, leb}
 use lib.ListN.{length, getD}
@@ -13,7 +13,7 @@ use Rattle.lists.specs.Functions.{total}
 use Rattle.lists.specs.Sets.{member, Ascending, upto, run}
 use Rattle.lists.proofs.Members.{by-test, and-left, and-right, member-cases, not-member-nil}
 use Rattle.lists.proofs.Places.{upto-snoc, total-append}
-use Rattle.foundation.specs.Pattern.{Lent, rowOf, patternOf, maxEntries, tooLarge, notFalling, startsFit, entriesFault, firstFault, rowFault, rowsFault, patternFault}
+use Rattle.foundation.specs.Pattern.{Lent, rowOf, patternOf, maxN, maxEntries, tooLarge, notFalling, startsFit, entriesFault, firstFault, rowFault, rowsFault, patternFault}
 use Rattle.foundation.specs.Facts.{Plannable, entriesOf}
 
 -- ---- faults
@@ -67,13 +67,14 @@ module _ (most : ℕ) (p : Lent) (passes : patternFault most p ≡ 0) where
   pub passes-starts : startsFit p ≡ true
   passes-starts = parts .1
 
-  -- A pattern that passes has a size from 1 to the largest and no more than 16,384 entries.
-  pub passes-small : (1 ≤ p .n) × (p .n ≤ most) × (length (p .columns) ≤ maxEntries)
-  unfolding tooLarge
+  -- A pattern that passes has a size from 1 to the largest, at most 1,024, and no more than 16,384 entries.
+  pub passes-small : (1 ≤ p .n) × (p .n ≤ most) × (p .n ≤ maxN) × (length (p .columns) ≤ maxEntries)
+  unfolding tooLarge maxN maxEntries
   passes-small =
       let (some, e) = or-false (eqb (p .n) 0) _ (parts .0) in
-      let (low, high) = or-false (ltb most (p .n)) _ e in
-      (omega (arith, eqb-false (p .n) 0 some), ltb-false most (p .n) low, ltb-false maxEntries (length (p .columns)) high)
+      let (low, high) = or-false (ltb (min most maxN) (p .n)) _ e in
+      let few : p .n ≤ min most 1024 = ltb-false (min most 1024) (p .n) low in
+      (omega (arith, eqb-false (p .n) 0 some), omega arith, omega arith, ltb-false maxEntries (length (p .columns)) high)
 
   row-passes : (i : ℕ) → 1 ≤ i → i ≤ p .n → (entriesFault (p .n) 0 (rowOf p i) ≡ 0) × (member i (rowOf p i) ≡ true)
   unfolding rowFault

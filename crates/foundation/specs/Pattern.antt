@@ -1,7 +1,7 @@
 -- The pattern of a field's equations, as it is lent and as the steps read it, and the judgement 1 to 5.
 use mathlib.Core.Bool.{Bool, true, cond, _&&_, _||_}
 use mathlib.Core.List.{List, [], _∷_}
-use Prim.Native.Nat.{ℕ, zero, suc}
+use Prim.Native.Nat.{ℕ, zero, suc, min}
 use lib.Dec.{eqb, ltb, leb}
 use lib.ListN.{length, getD}
 use lib.Seq.{slice}
@@ -50,10 +50,11 @@ maxN = 1024
 unfoldable pub maxEntries : ℕ
 maxEntries = 16384
 
--- Table, 1: "n is 0 or above 1,024 (program: 128), or entries above 16,384". The largest n is a parameter.
+-- Table, 1: "n is 0 or above 1,024 (program: 128), or entries above 16,384". The largest n of a caller is a parameter, and 1,024 whatever
+-- the caller takes.
 unfoldable pub tooLarge : ℕ → Lent → Bool
-unfolding maxEntries
-tooLarge most p = eqb (p .n) 0 || (ltb most (p .n) || ltb maxEntries (length (p .columns)))
+unfolding maxEntries maxN
+tooLarge most p = eqb (p .n) 0 || (ltb (min most maxN) (p .n) || ltb maxEntries (length (p .columns)))
 
 -- each number of the list is at least the one before it, the first at least `low`
 unfoldable pub notFalling : ℕ → List ℕ → Bool

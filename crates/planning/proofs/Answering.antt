@@ -7,19 +7,16 @@ use native.Mathlib.Omega.{arith}
 use lib.Dec.{eqb, ltb, leb}
 use lib.ListN.{length, getD, replicate, length-replicate}
 use borrow.Author.Tests.{eqb-true, eqb-false, eq-eqb, ne-eqb}
-use Rattle.lists.specs.Functions.{total, all}
-use Rattle.lists.specs.Sets.{member, upto}
-use Rattle.lists.proofs.Members.{by-test, same-test, fails, and-left, and-right, upto-low, upto-high}
-use Rattle.lists.proofs.Places.{length-upto, index-below}
-use Rattle.lists.proofs.Counting.{total-le, total-constant}
+use Rattle.lists.specs.Functions.{all}
+use Rattle.lists.specs.Sets.{member}
+use Rattle.lists.proofs.Members.{by-test, same-test, fails, and-left, and-right}
 use Rattle.foundation.specs.Answer.{Answer, refused, granted, refuseIf, andThen, resultStore, workStore}
-use Rattle.foundation.specs.Pattern.{Lent, lent, rowOf, patternOf, maxEntries, tooLarge, startsFit, entriesFault, firstFault, rowFault, rowsFault, patternFault, judged}
+use Rattle.foundation.specs.Pattern.{Lent, lent, rowOf, maxN, tooLarge, startsFit, entriesFault, firstFault, rowFault, rowsFault, patternFault, judged}
 use Rattle.foundation.specs.Plan.{Planning, Side, lower, upper, beforeSteps, after}
 use Rattle.foundation.specs.Subscripts.{shared, roomFault}
 use Rattle.foundation.specs.Slots.{slotsOf, slotStarts}
-use Rattle.foundation.specs.Facts.{Plannable, entriesOf}
 use Rattle.foundation.specs.PlanCall.{Counts, PlanStores, SideStores, WorkSizes, subscripts, countsOf, workFits, startsSized, sizesFit, planned, planAnswer, subscriptsAfter, startsAfter, slotStartsAfter, sideAfter, planLeaves}
-use Rattle.foundation.proofs.Passing.{passes-starts, passes-small, passes-plannable, passes-entries}
+use Rattle.foundation.proofs.Passing.{passes-starts, passes-small, passes-plannable}
 use Rattle.foundation.proofs.Room.{Passes, too-short, not-short, room-stops-lower, room-stops-upper, fits-granted, room-same}
 use Rattle.planning.specs.Calls.{refusalOf, answerOf, countsIn, planStores, workSizes, WorkLeft}
 use Rattle.planning.specs.Ready.{Ready, planOf}
@@ -42,31 +39,17 @@ use Rattle.planning.proofs.Coursing.{reads-all}
 
 -- ---- the judgement
 
--- a list with a member is not empty
-some-member : (x : ℕ) (xs : List ℕ) → member x xs ≡ true → 1 ≤ length xs
-some-member x xs m = omega (arith, index-below x xs m)
-
--- each row has an entry, so there are no more rows than entries
-rows-entries : (p : Lent) → Plannable (patternOf p) → p .n ≤ entriesOf (patternOf p)
-unfolding entriesOf patternOf
-rows-entries p h =
-    let size : ℕ → ℕ = λ i. length (rowOf p i) in
-    let each : total (λ i. 1) (upto (p .n)) ≤ total size (upto (p .n)) =
-    total-le (λ i. 1) size (upto (p .n)) (λ i m. some-member i (rowOf p i) (h .diagonal i (upto-low i (p .n) m) (upto-high i (p .n) m))) in
-    omega (arith, total-constant 1 (upto (p .n)), length-upto (p .n))
-
 -- A pattern that passes is ready for planning.
 pub ready : (most : ℕ) (p : Lent) → patternFault most p ≡ 0 → Ready p
-unfolding maxEntries
+unfolding maxN
 ready most p passes =
     let small = passes-small most p passes in
-    let can : Plannable (patternOf p) = passes-plannable most p passes in
     record {
-      plannable = can;
+      plannable = passes-plannable most p passes;
       starts-fit = passes-starts most p passes;
       some = small .0;
-      few = omega (arith, rows-entries p can, passes-entries most p passes, small .2);
-      entries = small .2;
+      few = omega (arith, small .2);
+      entries = small .3;
     }
 
 cond-le : (t : Bool) (a b c : ℕ) → a ≤ c → b ≤ c → cond t a b ≤ c
