@@ -52,7 +52,7 @@ class Cases:
         dense = self.dense
         stores = {name: [0] * lengths[name] for name in RESULTS}
         try:
-            rows = dense.check_pattern(n, starts, columns, most)
+            rows = dense.check_pattern(n, starts, columns, min(most, dense.MAX_N))
             if any(lengths[name] != size for name, size in self.right_lengths(n).items()):
                 raise dense.Refused(6)
             plan = dense.make_plan(n, rows, lengths["l_subs"], lengths["u_subs"])
@@ -220,6 +220,7 @@ def large(cases, rng):
     for over in (0, 1):                                 # n of 1,024 and 1,025
         rows = shape(1024 + over, lambda i, j: False)
         cases.plan(rows)
+        cases.plan(rows, most=2000)                     # more than 1,024 means 1,024
     full = shape(128, lambda i, j: True)                # 16,384 entries
     cases.plan(full, most=128)
     cases.plan(full)
