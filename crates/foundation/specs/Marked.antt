@@ -171,6 +171,10 @@ marked =
     ∷ case (told showPivots (twoRun whole (float 2 ∷ float 1 ∷ neg (float 2) ∷ float 1 ∷ []))) (grant ((1 ∷ 2 ∷ []) ∷ []))
     ∷ []
 
+-- a side's store and starts, of the U side
+unfoldable pub upperSharing : Lent → List (List ℕ)
+upperSharing p = subscripts (plan (patternOf p)) upper (p .n) ∷ startsStore (plan (patternOf p)) upper (p .n) ∷ []
+
 -- Other small cases of document 01.
 unfoldable pub also : List Case
 unfolding float
@@ -185,6 +189,11 @@ also =
     ∷ case (told (showPlanned 3) (plannedWith (lent 3 (0 ∷ 1 ∷ 2 ∷ 3 ∷ []) (1 ∷ 1 ∷ 4 ∷ [])) 2 2)) (refusal 5 0)
     ∷ case (told (showPlanned 2) (plannedWith (lent 2 (0 ∷ 2 ∷ 3 ∷ []) (1 ∷ 0 ∷ 2 ∷ [])) 2 2)) (refusal 3 0)
     ∷ case (told (showPlanned 2) (plannedWith (lent 2 (0 ∷ 1 ∷ 2 ∷ []) (3 ∷ 2 ∷ [])) 2 2)) (refusal 3 0)
+    -- t is found against the list of k-1, here empty, and not against whatever else stands at the store's end
+    ∷ case (upperSharing (lent 4 (0 ∷ 1 ∷ 2 ∷ 4 ∷ 6 ∷ []) (1 ∷ 2 ∷ 3 ∷ 4 ∷ 1 ∷ 4 ∷ []))) ((4 ∷ 4 ∷ []) ∷ (0 ∷ 1 ∷ 1 ∷ 2 ∷ []) ∷ [])
+    -- and only if that list ends at the store's end: here it lies in the middle
+    ∷ case (upperSharing (lent 5 (0 ∷ 1 ∷ 3 ∷ 6 ∷ 7 ∷ 9 ∷ []) (1 ∷ 2 ∷ 4 ∷ 1 ∷ 3 ∷ 4 ∷ 4 ∷ 1 ∷ 5 ∷ [])))
+    ((3 ∷ 4 ∷ 5 ∷ 4 ∷ 5 ∷ []) ∷ (0 ∷ 3 ∷ 1 ∷ 4 ∷ 5 ∷ []) ∷ [])
     -- a cut to n steps is no whole run: the solution store has the right side, not the solution
     ∷ case (told (showRight 4) (fourRun largest (cut 4))) (grant ((bits (8 ∷ 7 ∷ []) ++ map (λ k. bitsOf (neg (float k))) (1 ∷ 1 ∷ [])) ∷ []))
     ∷ case (told (showRight 4) (fourRun largest whole)) (grant (bits (1 ∷ 1 ∷ 1 ∷ 1 ∷ []) ∷ []))
