@@ -37,14 +37,23 @@ pub struct PlanCounts {
 
 // Refusals 1 to 9; 7 and 8 carry their step.
 pub enum Refusal {
+    // 1: n is 0 or too large, or there are too many entries.
     Limits,
+    // 2: the row starts.
     Starts,
+    // 3: a column outside 1 to n.
     Column,
+    // 4: columns that do not ascend.
     Order,
+    // 5: a row without its diagonal.
     Diagonal,
+    // 6: a starts or work store of another length.
     Stores,
+    // 7: an L subscript that does not fit, at this step.
     LowerRoom(usize),
+    // 8: a U subscript that does not fit, at this step.
     UpperRoom(usize),
+    // 9: the lent plan is not this pattern's.
     OtherPlan,
 }
 
