@@ -1,8 +1,8 @@
 // Lines on standard output.
+use answers::PlanAnswer;
+use answers::PlanCounts;
+use answers::Refusal;
 use libc::STDOUT_FILENO;
-use planning::PlanAnswer;
-use planning::PlanCounts;
-use planning::Refusal;
 
 // A blank and a number. The number is cast here, and not in the loop of `store`, so that the cast is no part of that loop's proof.
 fn number(value: usize) {

@@ -1,0 +1,3 @@
+-- What the contracts of planning's calls cite besides the foundation.
+pub mod Answers
+pub mod Stores

@@ -1,0 +1,10 @@
+-- Laws that the proofs of the functions share.
+pub mod Judging
+pub mod Passing
+pub mod Sizing
+pub mod Chaining
+pub mod Contains
+pub mod Joining
+pub mod Gathering
+pub mod Turning
+pub mod Coursing

@@ -1,0 +1,173 @@
+-- `from_rows` meets its contract. The loop's invariant: the list grown and what the rest of the chain brings make what all its rows bring.
+-- The chain ascends, so what is left of the numbers up to n falls.
+use mathlib.Core.Bool.{true}
+use mathlib.Core.Path.{_≡_, ap}
+use borrow.Author.Needs.{needs}
+use Rattle.lists.specs.Sets.{member}
+use Rattle.foundation.specs.Pattern.{Lent, lent}
+use Rattle.inner_gathering.specs.Ready.{planOf, sideOf}
+use Rattle.inner_gathering.specs.Gathering.{without}
+use Rattle.inner_gathering.proofs.Gathering.{RowsJoined, RowRead, left, rows-start, rows-on, rows-less, row-turn, upper-brings, lower-brings, brought-within}
+use Rattle.inner_gathering.proofs.Joining.{gathers-here, gathers-turn, gathers-end}
+use Rattle.inner_gathering.proofs.gather.from_rows.Statement.{statement}
+use Rattle.inner_gathering.proofs.gather.from_rows.Tie as tie
+
+abbrev Inv-loop : tie.InvT-loop
+Inv-loop upper n k first links starts columns list₀ spare₀ grown₀ i₀ list spare grown i =
+    RowsJoined (lent n starts columns) (sideOf upper) n k (grown .flipped) (grown .count) list spare links i
+
+abbrev μ-loop : tie.MeasureT-loop
+μ-loop upper n k first links starts columns list₀ spare₀ grown₀ i₀ list spare grown i = left n i
+
+loop-holds : tie.Need-loop-holds Inv-loop μ-loop
+loop-holds c =
+    let s = c .before .before .before .before .before in
+    rows-start _ _ _ (s .pre .0 .0) _ (s .pre .0 .1) (s .pre .0 .2) _ _ _ _ _ (s .pre .1 .1 .0) (s .pre .1 .1 .1) (s .pre .1 .0)
+
+abbrev start : tie.In-loop Inv-loop μ-loop → tie.Start Inv-loop μ-loop
+start c = c .before .before .before .before .before .before .before
+
+abbrev pattern : tie.Start Inv-loop μ-loop → Lent
+pattern s = lent (s .args .n) (s .args .starts .now) (s .args .columns .now)
+
+-- the row is one first met at k
+met : (c : tie.In-loop Inv-loop μ-loop) → member (c .before .loop .i) (planOf (pattern (start c)) .firstMet (start c .args .k)) ≡ true
+met c = gathers-here (c .before .loop .inv) (c .loop-test .taken) .0
+
+-- and so it is read
+read : (c : tie.In-loop Inv-loop μ-loop) → RowRead (start c .args .n) (start c .args .starts .now) (start c .args .columns .now) (c .before .loop .i)
+read c = let s = start c in row-turn _ _ _ (s .pre .0 .0) _ (s .pre .0 .1) (s .pre .0 .2) _ (met c)
+
+sub-from : tie.Need-sub-from Inv-loop μ-loop
+sub-from c = let r = read (c .before) in search needs
+
+mul-from : tie.Need-mul-from Inv-loop μ-loop
+mul-from c = let r = read (c .before) in search needs
+
+shared-slice-read-from : tie.Need-shared-slice-read-from Inv-loop μ-loop
+shared-slice-read-from c = let r = read (c .before .before) in search needs
+
+mul-to : tie.Need-mul-to Inv-loop μ-loop
+mul-to c = let r = read (c .before .before) in search needs
+
+shared-slice-read-to : tie.Need-shared-slice-read-to Inv-loop μ-loop
+shared-slice-read-to c = let r = read (c .before .before .before) in search needs
+
+mul-join : tie.Need-mul-join Inv-loop μ-loop
+mul-join c = let r = read (c .before .before .before) in search needs
+
+sub-join : tie.Need-sub-join Inv-loop μ-loop
+sub-join c = let r = read (c .before .before .before) in search needs
+
+part-join-start : tie.Need-part-join-start Inv-loop μ-loop
+part-join-start c = let r = read (c .before .before .before) in search needs
+
+part-join-end : tie.Need-part-join-end Inv-loop μ-loop
+part-join-end c = let r = read (c .before .before .before) in search needs
+
+join-requires : tie.Need-join-requires Inv-loop μ-loop
+join-requires c κs =
+    let at = c .before .before .before .before .before .before in
+    let s = start at in
+    let e = upper-brings _ _ _ (s .pre .0 .0) _ (s .pre .0 .1) (s .pre .0 .2) (s .args .upper) _ (met at) (c .before .before .before .before .before .if1 .taken) in
+    let g = at .before .loop .inv in
+    (g .so-far, g .grown, g .within, brought-within _ _ _ (s .pre .0 .0) _ (s .pre .0 .1) (s .pre .0 .2) (s .args .upper) _ (met at) _ e)
+
+mul-i : tie.Need-mul-i Inv-loop μ-loop
+mul-i c =
+    let at = c .before .before .before .before .before .before .before .before .before .before .before in
+    let h = gathers-here (at .before .loop .inv) (at .loop-test .taken) in
+    search needs
+
+shared-slice-read-i : tie.Need-shared-slice-read-i Inv-loop μ-loop
+shared-slice-read-i c =
+    let at = c .before .before .before .before .before .before .before .before .before .before .before .before in
+    let h = gathers-here (at .before .loop .inv) (at .loop-test .taken) in
+    search needs
+
+loop-less : tie.Need-loop-less Inv-loop μ-loop
+loop-less c = let at = c .before .before .before .before .before .before .before .before .before .before .before .before in rows-less (at .before .loop .inv) (at .loop-test .taken) (read at .high)
+
+loop-again : tie.Need-loop-again Inv-loop μ-loop
+loop-again c =
+    let at = c .before .before .before .before .before .before .before .before .before .before .before .before in
+    let s = start at in
+    let e = upper-brings _ _ _ (s .pre .0 .0) _ (s .pre .0 .1) (s .pre .0 .2) (s .args .upper) _ (met at) (c .before .before .before .before .before .before .before .before .before .before .before .if1 .taken) in
+    let g = at .before .loop .inv in
+    gathers-turn g (at .loop-test .taken) _ (brought-within _ _ _ (s .pre .0 .0) _ (s .pre .0 .1) (s .pre .0 .2) (s .args .upper) _ (met at) _ e)
+    (ap (without _) e) (rows-on _) (c .before .before .before .before .before .join .ensures (g .so-far) (g .grown))
+
+slice-aggregate-join : tie.Need-slice-aggregate-join Inv-loop μ-loop
+slice-aggregate-join c = search needs
+
+join-requires-2 : tie.Need-join-requires-2 Inv-loop μ-loop
+join-requires-2 c κs =
+    let at = c .before .before .before .before in
+    let s = start at in
+    let e = lower-brings _ _ _ (s .pre .0 .0) _ (s .pre .0 .1) (s .pre .0 .2) (s .args .upper) _ (met at) (c .before .before .before .if1 .left) in
+    let g = at .before .loop .inv in
+    (g .so-far, g .grown, g .within, brought-within _ _ _ (s .pre .0 .0) _ (s .pre .0 .1) (s .pre .0 .2) (s .args .upper) _ (met at) _ e)
+
+mul-i-2 : tie.Need-mul-i-2 Inv-loop μ-loop
+mul-i-2 c =
+    let at = c .before .before .before .before .before .before .before .before .before in
+    let h = gathers-here (at .before .loop .inv) (at .loop-test .taken) in
+    search needs
+
+shared-slice-read-i-2 : tie.Need-shared-slice-read-i-2 Inv-loop μ-loop
+shared-slice-read-i-2 c =
+    let at = c .before .before .before .before .before .before .before .before .before .before in
+    let h = gathers-here (at .before .loop .inv) (at .loop-test .taken) in
+    search needs
+
+loop-less-2 : tie.Need-loop-less-2 Inv-loop μ-loop
+loop-less-2 c = let at = c .before .before .before .before .before .before .before .before .before .before in rows-less (at .before .loop .inv) (at .loop-test .taken) (read at .high)
+
+loop-again-2 : tie.Need-loop-again-2 Inv-loop μ-loop
+loop-again-2 c =
+    let at = c .before .before .before .before .before .before .before .before .before .before in
+    let s = start at in
+    let e = lower-brings _ _ _ (s .pre .0 .0) _ (s .pre .0 .1) (s .pre .0 .2) (s .args .upper) _ (met at) (c .before .before .before .before .before .before .before .before .before .if1 .left) in
+    let g = at .before .loop .inv in
+    gathers-turn g (at .loop-test .taken) _ (brought-within _ _ _ (s .pre .0 .0) _ (s .pre .0 .1) (s .pre .0 .2) (s .args .upper) _ (met at) _ e)
+    (ap (without _) e) (rows-on _) (c .before .before .before .before .before .join2 .ensures (g .so-far) (g .grown))
+
+same-length : tie.Need-same-length Inv-loop μ-loop
+same-length c = let h = gathers-end (c .before .loop .inv) (c .loop-test .left) in search needs
+
+same-length-2 : tie.Need-same-length-2 Inv-loop μ-loop
+same-length-2 c = let h = gathers-end (c .before .loop .inv) (c .loop-test .left) in search needs
+
+returns : tie.Need-returns Inv-loop μ-loop
+returns c = gathers-end (c .before .loop .inv) (c .loop-test .left)
+
+pub from-rows-spec : {M : Type 1} → statement M
+from-rows-spec =
+    tie.close
+    (tie.spec
+    Inv-loop
+    μ-loop
+    loop-holds
+    sub-from
+    mul-from
+    shared-slice-read-from
+    mul-to
+    shared-slice-read-to
+    mul-join
+    sub-join
+    part-join-start
+    part-join-end
+    join-requires
+    mul-i
+    shared-slice-read-i
+    loop-less
+    loop-again
+    slice-aggregate-join
+    join-requires-2
+    mul-i-2
+    shared-slice-read-i-2
+    loop-less-2
+    loop-again-2
+    same-length
+    same-length-2
+    returns)

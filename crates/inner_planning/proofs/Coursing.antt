@@ -1,0 +1,129 @@
+-- Planning step after step: the steps that are done and that fit, until all are done or one does not fit.
+use mathlib.Core.List.{List}
+use mathlib.Core.Path.{_≡_, refl, _∙_}
+use Prim.Native.Nat.{ℕ, _+_, _-_, _≤_, _<_}
+use native.Mathlib.Omega.{arith}
+use lib.ListN.{length}
+use Rattle.foundation.specs.Pattern.{Lent}
+use Rattle.foundation.specs.Plan.{lower, upper}
+use Rattle.foundation.proofs.Opening.{length-grows}
+use Rattle.inner_gathering.specs.Ready.{Ready, planOf}
+use Rattle.inner_gathering.specs.Contains.{used}
+use Rattle.inner_gathering.specs.Steps.{StepOf, ChainsAt, EndsAre}
+use Rattle.inner_gathering.proofs.Coursing.{ends-none}
+use Rattle.inner_step.specs.Filled.{BothFilled}
+use Rattle.inner_step.proofs.Filled.{filled-room}
+use Rattle.inner_planning.specs.Course.{FitTo}
+
+module _ (p : Lent) (n k roomL roomU : ℕ) (lSubs lStarts lSlots uSubs uStarts uSlots : List ℕ) (high : k ≤ n)
+    (both : BothFilled p n k roomL roomU lSubs lStarts lSlots uSubs uStarts uSlots) where
+  -- so far both sides fit
+  fit-before : (t : ℕ) → t ≤ k → FitTo p t roomL roomU
+  unfolding used
+  fit-before t h = record {
+    lower-fits = omega (arith, length-grows (planOf p) lower t k h, both .lowers .fits);
+    upper-fits = omega (arith, length-grows (planOf p) upper t k h, both .uppers .fits);
+  }
+
+-- ---- the steps one after the other
+
+-- lists that have the sizes of others
+pub record SameSizes (a₀ a b₀ b c₀ c d₀ d e₀ e : List ℕ) : Type 0 where
+  pub first : length a ≡ length a₀
+  pub second : length b ≡ length b₀
+  pub third : length c ≡ length c₀
+  pub fourth : length d ≡ length d₀
+  pub fifth : length e ≡ length e₀
+
+-- The steps before k are done, in stores with room for so many subscripts.
+pub record Underway (p : Lent) (n k roomL roomU : ℕ) (rowHeads rowLinks setHeads setLinks lSubs lStarts lSlots uSubs uStarts uSlots list spare : List ℕ) (l u reads : ℕ) : Type 0 where
+  pub ready : Ready p
+  pub same-n : p .n ≡ n
+  pub low : 1 ≤ k
+  pub high : k ≤ n + 1
+  pub chains : ChainsAt p n (k - 1) rowHeads rowLinks setHeads setLinks
+  pub both : BothFilled p n (k - 1) roomL roomU lSubs lStarts lSlots uSubs uStarts uSlots
+  pub ends : EndsAre p (k - 1) l u reads
+  pub list-size : length list ≡ n
+  pub spare-size : length spare ≡ n
+
+-- no step is done
+pub steps-start :
+    {p : Lent} {n roomL roomU reads : ℕ} {rowHeads rowLinks setHeads setLinks lSubs lStarts lSlots uSubs uStarts uSlots list spare : List ℕ} → p .n ≡ n
+    → reads ≡ length (p .columns) → Ready p × ChainsAt p n 0 rowHeads rowLinks setHeads setLinks
+    → BothFilled p n 0 roomL roomU lSubs lStarts lSlots uSubs uStarts uSlots → (length list ≡ n) × (length spare ≡ n)
+    → Underway p n 1 roomL roomU rowHeads rowLinks setHeads setLinks lSubs lStarts lSlots uSubs uStarts uSlots list spare 0 0 reads
+steps-start same read (ready, chains) both sizes = record {
+  ready = ready;
+  same-n = same;
+  low = omega arith;
+  high = omega arith;
+  chains = chains;
+  both = both;
+  ends = ends-none _ 0 0 _ refl refl read;
+  list-size = sizes .0;
+  spare-size = sizes .1;
+}
+
+module _ {p : Lent} {n k roomL roomU : ℕ} {rowHeads rowLinks setHeads setLinks lSubs lStarts lSlots uSubs uStarts uSlots list spare : List ℕ} {l u reads : ℕ}
+    (under : Underway p n k roomL roomU rowHeads rowLinks setHeads setLinks lSubs lStarts lSlots uSubs uStarts uSlots list spare l u reads) where
+  -- the stores have the room that is said
+  room-lower : length lSubs ≡ roomL
+  room-lower = filled-room (planOf p) lower n (k - 1) roomL lSubs lStarts lSlots (under .both .lowers)
+
+  room-upper : length uSubs ≡ roomU
+  room-upper = filled-room (planOf p) upper n (k - 1) roomU uSubs uStarts uSlots (under .both .uppers)
+
+  -- the next step may be taken
+  pub step-asks :
+      k ≤ n
+      → (StepOf p n k × ChainsAt p n (k - 1) rowHeads rowLinks setHeads setLinks)
+      × (BothFilled p n (k - 1) (length lSubs) (length uSubs) lSubs lStarts lSlots uSubs uStarts uSlots
+      × (EndsAre p (k - 1) l u reads × ((length list ≡ n) × (length spare ≡ n))))
+  step-asks high = (
+    (record { ready = under .ready; same-n = under .same-n; low = under .low; high = high }, under .chains),
+    (rw (room-lower, room-upper) (under .both), (under .ends, (under .list-size, under .spare-size))),
+  )
+
+  -- the earlier steps fit
+  fit-until : (t : ℕ) → t < k → FitTo p t roomL roomU
+  fit-until t h = fit-before p n (k - 1) roomL roomU lSubs lStarts lSlots uSubs uStarts uSlots (omega (arith, under .high)) (under .both) t (omega arith)
+
+  -- L's subscripts of step k do not fit
+  pub full-lower :
+      k ≤ n → length lSubs < used (planOf p) lower k
+      → (1 ≤ k) × (k ≤ n) × ((t : ℕ) → t < k → FitTo p t roomL roomU) × (roomL < used (planOf p) lower k)
+  full-lower high over = (under .low, high, fit-until, omega (arith, room-lower))
+
+  -- those of U do not
+  pub full-upper :
+      k ≤ n → (used (planOf p) lower k ≤ length lSubs) × (length uSubs < used (planOf p) upper k)
+      → (1 ≤ k) × (k ≤ n) × ((t : ℕ) → t < k → FitTo p t roomL roomU) × (used (planOf p) lower k ≤ roomL) × (roomU < used (planOf p) upper k)
+  full-upper high (fits, over) = (under .low, high, fit-until, omega (arith, room-lower), omega (arith, room-upper))
+
+  -- one step more is done
+  pub steps-turn :
+      {l′ u′ reads′ : ℕ} {setHeads′ setLinks′ lSubs′ lStarts′ lSlots′ uSubs′ uStarts′ uSlots′ list′ spare′ : List ℕ} → k ≤ n
+      → EndsAre p k l′ u′ reads′ × ChainsAt p n k rowHeads rowLinks setHeads′ setLinks′
+      × BothFilled p n k (length lSubs) (length uSubs) lSubs′ lStarts′ lSlots′ uSubs′ uStarts′ uSlots′
+      → length list′ ≡ length list → length spare′ ≡ length spare
+      → Underway p n (k + 1) roomL roomU rowHeads rowLinks setHeads′ setLinks′ lSubs′ lStarts′ lSlots′ uSubs′ uStarts′ uSlots′ list′ spare′ l′ u′ reads′
+  steps-turn high (ends, chains, both) c d =
+      let back : k + 1 - 1 ≡ k = omega arith in
+      record {
+        ready = under .ready;
+        same-n = under .same-n;
+        low = omega arith;
+        high = omega arith;
+        chains = rw back chains;
+        both = rw (back, ← room-lower, ← room-upper) both;
+        ends = rw back ends;
+        list-size = c ∙ under .list-size;
+        spare-size = d ∙ under .spare-size;
+      }
+
+  -- all steps are done
+  pub steps-end : (n < k) → EndsAre p n l u reads × BothFilled p n n roomL roomU lSubs lStarts lSlots uSubs uStarts uSlots
+  steps-end over =
+      let back : k - 1 ≡ n = omega (arith, under .high) in
+      (rw back at (under .ends), rw back at (under .both))

@@ -1,0 +1,23 @@
+-- What planning comes to: its answer, and the plan in its stores.
+use mathlib.Core.List.{List}
+use Prim.Native.Nat.{ℕ}
+use Rattle.foundation.specs.Answer.{Answer, refused, granted}
+use Rattle.foundation.specs.Pattern.{Lent}
+use Rattle.foundation.specs.PlanCall.{Counts}
+use Rattle.answers.specs.Answers.{counted}
+use Rattle.answers.specs.declared.PlanAnswer.{PlanAnswer}
+use Rattle.answers.specs.declared.PlanAnswer.the-variants.{Planned, Refused}
+use Rattle.inner_step.specs.Filled.{BothFilled}
+use Rattle.inner_planning.specs.declared.steps.Ended.{Ended}
+use Rattle.inner_planning.specs.declared.steps.Ended.the-variants.{All, LowerAt, UpperAt}
+
+-- a plan that was made stands in its stores; of a refusal nothing is said, since who asked clears them
+abbrev pub PlannedAs : PlanAnswer → Lent → ℕ → ℕ → ℕ → (lSubs lStarts lSlots uSubs uStarts uSlots : List ℕ) → Type 0
+PlannedAs (Planned c) p n roomL roomU lSubs lStarts lSlots uSubs uStarts uSlots = BothFilled p n n roomL roomU lSubs lStarts lSlots uSubs uStarts uSlots
+PlannedAs (Refused r) p n roomL roomU lSubs lStarts lSlots uSubs uStarts uSlots = Unit {0}
+
+-- what the ending of the steps is as an answer, with the ends of both sides' slots
+unfoldable pub endedAnswer : Ended → (n entries lowerSlots upperSlots : ℕ) → Answer Counts
+endedAnswer (All l u reads) n entries lowerSlots upperSlots = granted (counted n entries (l .0) (u .0) lowerSlots upperSlots reads)
+endedAnswer (LowerAt k) n entries lowerSlots upperSlots = refused 7 k
+endedAnswer (UpperAt k) n entries lowerSlots upperSlots = refused 8 k

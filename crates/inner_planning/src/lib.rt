@@ -1,0 +1,5 @@
+// Planning from the judgement to the answer, in stores as they are lent.
+mod call;
+mod steps;
+
+pub use call::judge_and_plan;

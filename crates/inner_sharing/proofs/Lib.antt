@@ -1,0 +1,4 @@
+-- Laws that the proofs of the functions share.
+pub mod Sharing
+pub mod Comparing
+pub mod Adding

@@ -1,0 +1,84 @@
+-- `stands_at` meets its contract. The loop's invariant: the list's first i numbers stand at their places in the store.
+use mathlib.Core.Path.{_≡_, sym}
+use Prim.Native.Nat.{ℕ, _+_, _-_, _≤_, _<_}
+use native.Mathlib.Omega.{arith}
+use lib.ListN.{length, getD}
+use borrow.Author.Count.{below-more}
+use borrow.Author.Needs.{needs}
+use Rattle.inner_sharing.proofs.Comparing.{stands-short, stands-apart, stands-whole}
+use Rattle.inner_sharing.proofs.compare.stands_at.Statement.{statement}
+use Rattle.inner_sharing.proofs.compare.stands_at.Tie as tie
+
+abbrev Inv-loop : tie.InvT-loop
+Inv-loop list store at i₀ i = (i ≤ length list) × (length list ≤ length store - at) × ((j : ℕ) → j < i → getD store (at + j) 0 ≡ getD list j 0)
+
+abbrev μ-loop : tie.MeasureT-loop
+μ-loop list store at i₀ i = length list - i
+
+sub-if1 : tie.Need-sub-if1 Inv-loop μ-loop
+sub-if1 c = search needs
+
+loop-holds : tie.Need-loop-holds Inv-loop μ-loop
+loop-holds c = search needs
+
+add-if2 : tie.Need-add-if2 Inv-loop μ-loop
+add-if2 c = search needs
+
+mul-if2 : tie.Need-mul-if2 Inv-loop μ-loop
+mul-if2 c = search needs
+
+shared-slice-read-if2 : tie.Need-shared-slice-read-if2 Inv-loop μ-loop
+shared-slice-read-if2 c = search needs
+
+mul-if2-2 : tie.Need-mul-if2-2 Inv-loop μ-loop
+mul-if2-2 c = search needs
+
+shared-slice-read-if2-2 : tie.Need-shared-slice-read-if2-2 Inv-loop μ-loop
+shared-slice-read-if2-2 c = search needs
+
+returns : tie.Need-returns Inv-loop μ-loop
+returns c =
+    let a = c .before .before .before .before .before .before .args in
+    sym (stands-apart (a .list .now) (a .store .now) (a .at) (c .before .before .before .before .loop .i) (c .before .before .before .loop-test .taken) (c .if2 .taken))
+
+add-i : tie.Need-add-i Inv-loop μ-loop
+add-i c = search needs
+
+loop-less : tie.Need-loop-less Inv-loop μ-loop
+loop-less c = search needs
+
+loop-again : tie.Need-loop-again Inv-loop μ-loop
+loop-again c = (search needs, search needs, below-more _ _ (c .before .before .before .before .loop .inv .2) (c .if2 .left))
+
+returns-2 : tie.Need-returns-2 Inv-loop μ-loop
+returns-2 c =
+    let (high, room, each) = c .before .loop .inv in
+    let a = c .before .before .before .args in
+    let all : (i : ℕ) → i < length (a .list .now) → getD (a .store .now) (a .at + i) 0 ≡ getD (a .list .now) i 0 = λ i h.
+    each i (omega arith) in
+    sym (stands-whole (a .list .now) (a .store .now) (a .at) room all)
+
+returns-3 : tie.Need-returns-3 Inv-loop μ-loop
+returns-3 c =
+    let a = c .before .args in
+    sym (stands-short (a .list .now) (a .store .now) (a .at) (c .if1 .left))
+
+pub stands-at-spec : {M : Type 1} → statement M
+stands-at-spec =
+    tie.close
+    (tie.spec
+    Inv-loop
+    μ-loop
+    sub-if1
+    loop-holds
+    add-if2
+    mul-if2
+    shared-slice-read-if2
+    mul-if2-2
+    shared-slice-read-if2-2
+    returns
+    add-i
+    loop-less
+    loop-again
+    returns-2
+    returns-3)

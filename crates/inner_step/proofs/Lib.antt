@@ -1,0 +1,5 @@
+-- Laws that the proofs of the functions share.
+pub mod Filled
+pub mod Placing
+pub mod Lists
+pub mod Stepping

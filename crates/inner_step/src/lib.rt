@@ -1,0 +1,6 @@
+// One step of planning, in lent stores.
+mod place;
+mod step;
+
+pub use step::Turned;
+pub use step::plan_step;

@@ -1,0 +1,80 @@
+// How a step's kept list is put into the stores of its side: shared subscripts (report, section 3.1) and the starts of its value slots.
+ghost use mathlib.Core.Path.{_≡_};
+ghost use Prim.Native.Nat.{_-_};
+ghost use lib.ListN.{length};
+ghost use Rattle.foundation.specs.Pattern.{Lent, lent};
+ghost use Rattle.foundation.specs.Plan.{Side};
+ghost use Rattle.foundation.specs.Subscripts.{soleStep};
+ghost use Rattle.inner_gathering.specs.Ready.{planOf, sideOf};
+ghost use Rattle.inner_gathering.specs.Contains.{used};
+ghost use Rattle.inner_gathering.specs.Steps.{StepOf, ChainsOf};
+ghost use Rattle.inner_step.specs.Placing.{Placing, PlacedAs};
+ghost use Rattle.inner_step.specs.Filled.{Filled};
+use answers::SubscriptPlace;
+use inner_gathering::from_rows;
+use inner_gathering::from_steps;
+use inner_sharing::Placed;
+use inner_sharing::shared_end;
+use inner_sharing::write_list;
+
+// The kept list of step k is put into its side's stores.
+pub fn place(
+    n: usize,
+    k: usize,
+    new: &[usize],
+    subs: &mut [usize],
+    starts: &mut [usize],
+    slots: &mut [usize],
+    end: SubscriptPlace,
+) -> Placed
+    requires { ⌜ ((p : Lent) × (side : Side) × Placing p side n k (now new) (now subs) (now starts) (now slots) (end .0)) ⌝ }
+    ensures { λ r. ⌜ ((p : Lent) (side : Side) → Placing p side n k (now (new .entry)) (now (subs .entry)) (now (starts .entry)) (now (slots .entry)) (end .0) → PlacedAs r p side n k (length (now (subs .entry))) (now (subs .exit)) (now (starts .exit)) (now (slots .exit))) ⌝ }
+{
+    let shared = shared_end(k, new, subs, starts, slots, end);
+    write_list(k, shared, new, subs, starts, slots, end)
+}
+
+// One side of step k: its kept list is gathered and put into the side's stores.
+pub fn plan_side(
+    upper: bool,
+    n: usize,
+    k: usize,
+    row: usize,
+    row_links: &[usize],
+    set: usize,
+    set_links: &[usize],
+    starts: &[usize],
+    columns: &[usize],
+    subs: &mut [usize],
+    list_starts: &mut [usize],
+    slots: &mut [usize],
+    list: &mut [usize],
+    spare: &mut [usize],
+    end: SubscriptPlace,
+) -> Placed
+    requires { ⌜ StepOf (lent n (now starts) (now columns)) n k × ChainsOf (lent n (now starts) (now columns)) k row (now «row_links») set (now «set_links») ⌝ }
+    requires { ⌜ Filled (planOf (lent n (now starts) (now columns))) (sideOf upper) n (k - 1) (length (now subs)) (now subs) (now «list_starts») (now slots) ⌝ }
+    requires { ⌜ (end .0 ≡ used (planOf (lent n (now starts) (now columns))) (sideOf upper) (k - 1)) × (soleStep (planOf (lent n (now starts) (now columns))) k ≡ 0) ⌝ }
+    requires { ⌜ (length (now list) ≡ n) × (length (now spare) ≡ n) ⌝ }
+    ensures { λ r. ⌜ PlacedAs r (lent n (now (starts .entry)) (now (columns .entry))) (sideOf upper) n k (length (now (subs .entry))) (now (subs .exit)) (now («list_starts» .exit)) (now (slots .exit)) ⌝ }
+{
+    let rows = from_rows(upper, n, k, row, row_links, starts, columns, list, spare);
+    let grown = from_steps(
+        upper,
+        n,
+        k,
+        set,
+        set_links,
+        subs,
+        list_starts,
+        slots,
+        rows,
+        list,
+        spare,
+    );
+    let count = grown.count;
+    if grown.flipped {
+        return place(n, k, &spare[0..count], subs, list_starts, slots, end);
+    }
+    place(n, k, &list[0..count], subs, list_starts, slots, end)
+}

@@ -1,0 +1,5 @@
+-- What the contracts cite.
+pub mod Clearing
+pub mod Filling
+pub mod Merging
+pub mod Chains

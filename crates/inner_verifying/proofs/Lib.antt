@@ -1,0 +1,5 @@
+-- Laws that the proofs of the functions share.
+pub mod Verifying
+pub mod Coursing
+pub mod Counting
+pub mod Answering

@@ -1,0 +1,201 @@
+-- `judge_and_verify` meets its contract: the judgement, the lengths, the steps and the counts answer in the table's order, by laws of
+-- `Answering`. Assumes nothing.
+use mathlib.Core.Path.{refl, _∙_}
+use native.Mathlib.Omega.{arith}
+use borrow.Author.Needs.{needs}
+use borrow.Author.Tests.{not-true, not-false}
+use Rattle.inner_gathering.proofs.Passing.{fault-range, fault-few}
+use Rattle.inner_verifying.proofs.Answering.{verify-fault, verify-sizes, verify-rows-ask, verify-steps-ask, verify-places, verify-differs, verify-miscounts, verify-agrees}
+use Rattle.inner_verifying.proofs.call.judge_and_verify.Statement.{statement}
+use Rattle.inner_verifying.proofs.call.judge_and_verify.Tie as tie
+
+pattern-fault-requires : tie.Need-pattern-fault-requires
+pattern-fault-requires c κs = search needs
+
+refusal-of-requires : tie.Need-refusal-of-requires
+refusal-of-requires c κs = fault-range _ _ _ _ _ (c .before .pattern-fault .ensures) (c .if1 .taken)
+
+returns : tie.Need-returns
+returns c =
+    let a = c .before .before .before .before .before .before .before .before .before .before .before .before .before .before .before .before .before .args in
+    verify-fault (a .most) (a .n) (a .starts .now) (a .columns .now) (a .counts) (a .l-subs .now) (a .l-starts .now) (a .l-slots .now) (a .u-subs .now) (a .u-starts .now) (a .u-slots .now)
+    (a .row-heads .now) (a .row-links .now) (a .set-heads .now) (a .set-links .now) (a .list .now) (a .spare .now)
+    _ _ (c .before .before .pattern-fault .ensures) (c .before .if1 .taken) (c .refusal-of .ensures)
+
+lengths-fit-requires : tie.Need-lengths-fit-requires
+lengths-fit-requires c κs = fault-few _ _ _ _ _ (c .before .pattern-fault .ensures) (c .if1 .left)
+
+returns-2 : tie.Need-returns-2
+returns-2 c =
+    let a = c .before .before .before .before .before .before .before .before .before .before .before .before .before .before .before .before .before .before .args in
+    verify-sizes (a .most) (a .n) (a .starts .now) (a .columns .now) (a .counts) (a .l-subs .now) (a .l-starts .now) (a .l-slots .now) (a .u-subs .now) (a .u-starts .now) (a .u-slots .now)
+    (a .row-heads .now) (a .row-links .now) (a .set-heads .now) (a .set-links .now) (a .list .now) (a .spare .now)
+    _ (c .before .before .before .pattern-fault .ensures) (c .before .before .if1 .left) _ (c .before .lengths-fit .ensures) (not-true _ (c .if2 .taken))
+
+chain-rows-requires : tie.Need-chain-rows-requires
+chain-rows-requires c κs =
+    let a = c .before .before .before .before .before .before .before .before .before .before .before .before .before .before .before .before .before .before .before .before .args in
+    verify-rows-ask (a .most) (a .n) (a .starts .now) (a .columns .now) (a .counts) (a .l-subs .now) (a .l-starts .now) (a .l-slots .now) (a .u-subs .now) (a .u-starts .now) (a .u-slots .now)
+    (a .row-heads .now) (a .row-links .now) (a .set-heads .now) (a .set-links .now) (a .list .now) (a .spare .now)
+    _ (c .before .before .before .before .before .pattern-fault .ensures) (c .before .before .before .before .if1 .left) _ (c .before .before .before .lengths-fit .ensures) (not-false _ (c .before .before .if2 .left))
+
+clear-chains-requires : tie.Need-clear-chains-requires
+clear-chains-requires c κs = search needs
+
+verify-steps-requires : tie.Need-verify-steps-requires
+verify-steps-requires c κs =
+    let a = c .before .before .before .before .before .before .before .before .before .before .before .before .before .before .before .before .before .before .before .before .before .before .before .before .before .before .before .before .before .before .before .before .before .before .before .before .before .before .args in
+    verify-steps-ask (a .most) (a .n) (a .starts .now) (a .columns .now) (a .counts) (a .l-subs .now) (a .l-starts .now) (a .l-slots .now) (a .u-subs .now) (a .u-starts .now) (a .u-slots .now)
+    (a .row-heads .now) (a .row-links .now) (a .set-heads .now) (a .set-links .now) (a .list .now) (a .spare .now)
+    _ (c .before .before .before .before .before .before .before .before .before .before .before .before .before .before .before .before .before .before .before .before .before .before .before .pattern-fault .ensures) (c .before .before .before .before .before .before .before .before .before .before .before .before .before .before .before .before .before .before .before .before .before .before .if1 .left) _ (c .before .before .before .before .before .before .before .before .before .before .before .before .before .before .before .before .before .before .before .before .before .lengths-fit .ensures) (not-false _ (c .before .before .before .before .before .before .before .before .before .before .before .before .before .before .before .before .before .before .before .before .if2 .left)) (c .before .before .before .before .before .before .before .before .before .before .before .before .before .before .before .before .before .chain-rows .ensures) (c .before .before .before .before .before .before .before .before .before .before .clear-chains .ensures)
+
+enum-known-ended : tie.Need-enum-known-ended
+enum-known-ended c = search needs
+
+enum-told : tie.Need-enum-told
+enum-told c = search needs
+
+same-length : tie.Need-same-length
+same-length c = c .before .before .before .before .before .before .before .before .before .before .before .before .before .before .before .before .before .before .before .before .before .before .before .before .before .before .before .before .chain-rows .kept .1 .1 .1 .0
+
+same-length-2 : tie.Need-same-length-2
+same-length-2 c = c .before .before .before .before .before .before .before .before .before .before .before .before .before .before .before .before .before .before .before .before .before .before .before .before .before .before .before .before .chain-rows .kept .1 .1 .1 .1 .0
+
+same-length-3 : tie.Need-same-length-3
+same-length-3 c = c .before .before .before .before .before .before .before .before .before .before .verify-steps .kept .1 .1 .1 .1 .1 .0 ∙ c .before .before .before .before .before .before .before .before .before .before .before .before .before .before .before .before .before .before .before .before .before .clear-chains .kept .0
+
+same-length-4 : tie.Need-same-length-4
+same-length-4 c = c .before .before .before .before .before .before .before .before .before .before .verify-steps .kept .1 .1 .1 .1 .1 .1 .0 ∙ c .before .before .before .before .before .before .before .before .before .before .before .before .before .before .before .before .before .before .before .before .before .clear-chains .kept .1 .0
+
+same-length-5 : tie.Need-same-length-5
+same-length-5 c = c .before .before .before .before .before .before .before .before .before .before .verify-steps .kept .1 .1 .1 .1 .1 .1 .1 .1 .1 .1 .1 .1 .1 .0
+
+same-length-6 : tie.Need-same-length-6
+same-length-6 c = c .before .before .before .before .before .before .before .before .before .before .verify-steps .kept .1 .1 .1 .1 .1 .1 .1 .1 .1 .1 .1 .1 .1 .1 .0
+
+returns-3 : tie.Need-returns-3
+returns-3 c =
+    let a = c .before .before .before .before .before .before .before .before .before .before .before .before .before .before .before .before .before .before .before .before .before .before .before .before .before .before .before .before .before .before .before .before .before .before .before .before .before .before .before .before .before .before .before .before .before .before .before .before .before .args in
+    verify-differs (a .most) (a .n) (a .starts .now) (a .columns .now) (a .counts) (a .l-subs .now) (a .l-starts .now) (a .l-slots .now) (a .u-subs .now) (a .u-starts .now) (a .u-slots .now)
+    (a .row-heads .now) (a .row-links .now) (a .set-heads .now) (a .set-links .now) (a .list .now) (a .spare .now)
+    _ (c .before .before .before .before .before .before .before .before .before .before .before .before .before .before .before .before .before .before .before .before .before .before .before .before .before .before .before .before .before .before .before .before .before .before .pattern-fault .ensures) (c .before .before .before .before .before .before .before .before .before .before .before .before .before .before .before .before .before .before .before .before .before .before .before .before .before .before .before .before .before .before .before .before .before .if1 .left) _ (c .before .before .before .before .before .before .before .before .before .before .before .before .before .before .before .before .before .before .before .before .before .before .before .before .before .before .before .before .before .before .before .before .lengths-fit .ensures) (not-false _ (c .before .before .before .before .before .before .before .before .before .before .before .before .before .before .before .before .before .before .before .before .before .before .before .before .before .before .before .before .before .before .before .if2 .left)) (rw (c .enum-told .given .1) at (c .before .before .before .before .before .before .before .before .before .before .verify-steps .ensures))
+
+mul-t27 : tie.Need-mul-t27
+mul-t27 c = omega (arith, fault-few _ _ _ _ _ (c .before .before .before .before .before .before .before .before .before .before .before .before .before .before .before .before .before .before .before .before .before .before .before .before .before .before .before .before .before .before .before .before .before .before .before .pattern-fault .ensures) (c .before .before .before .before .before .before .before .before .before .before .before .before .before .before .before .before .before .before .before .before .before .before .before .before .before .before .before .before .before .before .before .before .before .before .if1 .left))
+
+shared-slice-read-t28 : tie.Need-shared-slice-read-t28
+shared-slice-read-t28 c =
+    let a = c .before .before .before .before .before .before .before .before .before .before .before .before .before .before .before .before .before .before .before .before .before .before .before .before .before .before .before .before .before .before .before .before .before .before .before .before .before .before .before .before .before .before .before .before .before .before .before .before .before .before .before .args in
+    omega (
+      arith,
+      verify-places (a .most) (a .n) (a .starts .now) (a .columns .now) (a .counts) (a .l-subs .now) (a .l-starts .now) (a .l-slots .now) (a .u-subs .now) (a .u-starts .now) (a .u-slots .now)
+          (a .row-heads .now) (a .row-links .now) (a .set-heads .now) (a .set-links .now) (a .list .now) (a .spare .now)
+          _ (c .before .before .before .before .before .before .before .before .before .before .before .before .before .before .before .before .before .before .before .before .before .before .before .before .before .before .before .before .before .before .before .before .before .before .before .before .pattern-fault .ensures) (c .before .before .before .before .before .before .before .before .before .before .before .before .before .before .before .before .before .before .before .before .before .before .before .before .before .before .before .before .before .before .before .before .before .before .before .if1 .left) _ (c .before .before .before .before .before .before .before .before .before .before .before .before .before .before .before .before .before .before .before .before .before .before .before .before .before .before .before .before .before .before .before .before .before .before .lengths-fit .ensures) (not-false _ (c .before .before .before .before .before .before .before .before .before .before .before .before .before .before .before .before .before .before .before .before .before .before .before .before .before .before .before .before .before .before .before .before .before .if2 .left)),
+    )
+
+mul-t29 : tie.Need-mul-t29
+mul-t29 c = omega (arith, fault-few _ _ _ _ _ (c .before .before .before .before .before .before .before .before .before .before .before .before .before .before .before .before .before .before .before .before .before .before .before .before .before .before .before .before .before .before .before .before .before .before .before .before .pattern-fault .ensures) (c .before .before .before .before .before .before .before .before .before .before .before .before .before .before .before .before .before .before .before .before .before .before .before .before .before .before .before .before .before .before .before .before .before .before .before .if1 .left))
+
+shared-slice-read-t30 : tie.Need-shared-slice-read-t30
+shared-slice-read-t30 c =
+    let a = c .before .before .before .before .before .before .before .before .before .before .before .before .before .before .before .before .before .before .before .before .before .before .before .before .before .before .before .before .before .before .before .before .before .before .before .before .before .before .before .before .before .before .before .before .before .before .before .before .before .before .before .before .args in
+    omega (
+      arith,
+      verify-places (a .most) (a .n) (a .starts .now) (a .columns .now) (a .counts) (a .l-subs .now) (a .l-starts .now) (a .l-slots .now) (a .u-subs .now) (a .u-starts .now) (a .u-slots .now)
+          (a .row-heads .now) (a .row-links .now) (a .set-heads .now) (a .set-links .now) (a .list .now) (a .spare .now)
+          _ (c .before .before .before .before .before .before .before .before .before .before .before .before .before .before .before .before .before .before .before .before .before .before .before .before .before .before .before .before .before .before .before .before .before .before .before .before .before .pattern-fault .ensures) (c .before .before .before .before .before .before .before .before .before .before .before .before .before .before .before .before .before .before .before .before .before .before .before .before .before .before .before .before .before .before .before .before .before .before .before .before .if1 .left) _ (c .before .before .before .before .before .before .before .before .before .before .before .before .before .before .before .before .before .before .before .before .before .before .before .before .before .before .before .before .before .before .before .before .before .before .before .lengths-fit .ensures) (not-false _ (c .before .before .before .before .before .before .before .before .before .before .before .before .before .before .before .before .before .before .before .before .before .before .before .before .before .before .before .before .before .before .before .before .before .before .if2 .left)),
+    )
+
+same-counts-requires : tie.Need-same-counts-requires
+same-counts-requires c κs = search needs
+
+same-length-7 : tie.Need-same-length-7
+same-length-7 c = c .before .before .before .before .before .before .before .before .before .before .before .before .before .before .before .before .before .before .before .before .before .before .before .before .before .before .before .before .before .before .before .before .before .chain-rows .kept .1 .1 .1 .0
+
+same-length-8 : tie.Need-same-length-8
+same-length-8 c = c .before .before .before .before .before .before .before .before .before .before .before .before .before .before .before .before .before .before .before .before .before .before .before .before .before .before .before .before .before .before .before .before .before .chain-rows .kept .1 .1 .1 .1 .0
+
+same-length-9 : tie.Need-same-length-9
+same-length-9 c = c .before .before .before .before .before .before .before .before .before .before .before .before .before .before .before .verify-steps .kept .1 .1 .1 .1 .1 .0 ∙ c .before .before .before .before .before .before .before .before .before .before .before .before .before .before .before .before .before .before .before .before .before .before .before .before .before .before .clear-chains .kept .0
+
+same-length-10 : tie.Need-same-length-10
+same-length-10 c = c .before .before .before .before .before .before .before .before .before .before .before .before .before .before .before .verify-steps .kept .1 .1 .1 .1 .1 .1 .0 ∙ c .before .before .before .before .before .before .before .before .before .before .before .before .before .before .before .before .before .before .before .before .before .before .before .before .before .before .clear-chains .kept .1 .0
+
+same-length-11 : tie.Need-same-length-11
+same-length-11 c = c .before .before .before .before .before .before .before .before .before .before .before .before .before .before .before .verify-steps .kept .1 .1 .1 .1 .1 .1 .1 .1 .1 .1 .1 .1 .1 .0
+
+same-length-12 : tie.Need-same-length-12
+same-length-12 c = c .before .before .before .before .before .before .before .before .before .before .before .before .before .before .before .verify-steps .kept .1 .1 .1 .1 .1 .1 .1 .1 .1 .1 .1 .1 .1 .1 .0
+
+returns-4 : tie.Need-returns-4
+returns-4 c =
+    let a = c .before .before .before .before .before .before .before .before .before .before .before .before .before .before .before .before .before .before .before .before .before .before .before .before .before .before .before .before .before .before .before .before .before .before .before .before .before .before .before .before .before .before .before .before .before .before .before .before .before .before .before .before .before .before .args in
+    verify-miscounts (a .most) (a .n) (a .starts .now) (a .columns .now) (a .counts) (a .l-subs .now) (a .l-starts .now) (a .l-slots .now) (a .u-subs .now) (a .u-starts .now) (a .u-slots .now)
+    (a .row-heads .now) (a .row-links .now) (a .set-heads .now) (a .set-links .now) (a .list .now) (a .spare .now)
+    _ (c .before .before .before .before .before .before .before .before .before .before .before .before .before .before .before .before .before .before .before .before .before .before .before .before .before .before .before .before .before .before .before .before .before .before .before .before .before .before .before .pattern-fault .ensures) (c .before .before .before .before .before .before .before .before .before .before .before .before .before .before .before .before .before .before .before .before .before .before .before .before .before .before .before .before .before .before .before .before .before .before .before .before .before .before .if1 .left) _ (c .before .before .before .before .before .before .before .before .before .before .before .before .before .before .before .before .before .before .before .before .before .before .before .before .before .before .before .before .before .before .before .before .before .before .before .before .before .lengths-fit .ensures) (not-false _ (c .before .before .before .before .before .before .before .before .before .before .before .before .before .before .before .before .before .before .before .before .before .before .before .before .before .before .before .before .before .before .before .before .before .before .before .before .if2 .left)) _ _ _ _ (rw (c .before .before .before .before .before .ended .given .1) at (c .before .before .before .before .before .before .before .before .before .before .before .before .before .before .before .verify-steps .ensures)) refl _ (c .before .same-counts .ensures) (not-true _ (c .if3 .taken))
+
+same-length-13 : tie.Need-same-length-13
+same-length-13 c = c .before .before .before .before .before .before .before .before .before .before .before .before .before .before .before .before .before .before .before .before .before .before .before .before .before .before .before .before .before .before .before .before .before .chain-rows .kept .1 .1 .1 .0
+
+same-length-14 : tie.Need-same-length-14
+same-length-14 c = c .before .before .before .before .before .before .before .before .before .before .before .before .before .before .before .before .before .before .before .before .before .before .before .before .before .before .before .before .before .before .before .before .before .chain-rows .kept .1 .1 .1 .1 .0
+
+same-length-15 : tie.Need-same-length-15
+same-length-15 c = c .before .before .before .before .before .before .before .before .before .before .before .before .before .before .before .verify-steps .kept .1 .1 .1 .1 .1 .0 ∙ c .before .before .before .before .before .before .before .before .before .before .before .before .before .before .before .before .before .before .before .before .before .before .before .before .before .before .clear-chains .kept .0
+
+same-length-16 : tie.Need-same-length-16
+same-length-16 c = c .before .before .before .before .before .before .before .before .before .before .before .before .before .before .before .verify-steps .kept .1 .1 .1 .1 .1 .1 .0 ∙ c .before .before .before .before .before .before .before .before .before .before .before .before .before .before .before .before .before .before .before .before .before .before .before .before .before .before .clear-chains .kept .1 .0
+
+same-length-17 : tie.Need-same-length-17
+same-length-17 c = c .before .before .before .before .before .before .before .before .before .before .before .before .before .before .before .verify-steps .kept .1 .1 .1 .1 .1 .1 .1 .1 .1 .1 .1 .1 .1 .0
+
+same-length-18 : tie.Need-same-length-18
+same-length-18 c = c .before .before .before .before .before .before .before .before .before .before .before .before .before .before .before .verify-steps .kept .1 .1 .1 .1 .1 .1 .1 .1 .1 .1 .1 .1 .1 .1 .0
+
+returns-5 : tie.Need-returns-5
+returns-5 c =
+    let a = c .before .before .before .before .before .before .before .before .before .before .before .before .before .before .before .before .before .before .before .before .before .before .before .before .before .before .before .before .before .before .before .before .before .before .before .before .before .before .before .before .before .before .before .before .before .before .before .before .before .before .before .before .before .before .args in
+    verify-agrees (a .most) (a .n) (a .starts .now) (a .columns .now) (a .counts) (a .l-subs .now) (a .l-starts .now) (a .l-slots .now) (a .u-subs .now) (a .u-starts .now) (a .u-slots .now)
+    (a .row-heads .now) (a .row-links .now) (a .set-heads .now) (a .set-links .now) (a .list .now) (a .spare .now)
+    _ (c .before .before .before .before .before .before .before .before .before .before .before .before .before .before .before .before .before .before .before .before .before .before .before .before .before .before .before .before .before .before .before .before .before .before .before .before .before .before .before .pattern-fault .ensures) (c .before .before .before .before .before .before .before .before .before .before .before .before .before .before .before .before .before .before .before .before .before .before .before .before .before .before .before .before .before .before .before .before .before .before .before .before .before .before .if1 .left) _ (c .before .before .before .before .before .before .before .before .before .before .before .before .before .before .before .before .before .before .before .before .before .before .before .before .before .before .before .before .before .before .before .before .before .before .before .before .before .lengths-fit .ensures) (not-false _ (c .before .before .before .before .before .before .before .before .before .before .before .before .before .before .before .before .before .before .before .before .before .before .before .before .before .before .before .before .before .before .before .before .before .before .before .before .if2 .left)) _ _ _ _ (rw (c .before .before .before .before .before .ended .given .1) at (c .before .before .before .before .before .before .before .before .before .before .before .before .before .before .before .verify-steps .ensures)) refl _ (c .before .same-counts .ensures) (not-false _ (c .if3 .left))
+
+pub judge-and-verify-spec : {M : Type 1} → statement M
+judge-and-verify-spec =
+    tie.close
+    (tie.spec
+    pattern-fault-requires
+    refusal-of-requires
+    returns
+    lengths-fit-requires
+    returns-2
+    chain-rows-requires
+    clear-chains-requires
+    verify-steps-requires
+    enum-known-ended
+    enum-told
+    same-length
+    same-length-2
+    same-length-3
+    same-length-4
+    same-length-5
+    same-length-6
+    returns-3
+    mul-t27
+    shared-slice-read-t28
+    mul-t29
+    shared-slice-read-t30
+    same-counts-requires
+    same-length-7
+    same-length-8
+    same-length-9
+    same-length-10
+    same-length-11
+    same-length-12
+    returns-4
+    same-length-13
+    same-length-14
+    same-length-15
+    same-length-16
+    same-length-17
+    same-length-18
+    returns-5)

@@ -1,0 +1,29 @@
+-- `same_counts` meets its contract: the first count that differs, or the last, decides. Assumes nothing.
+use Rattle.inner_verifying.proofs.Counting.{apart-n, apart-entries, apart-lower-subscripts, apart-upper-subscripts, apart-lower-slots, apart-upper-slots, last-count}
+use Rattle.inner_verifying.proofs.call.same_counts.Statement.{statement}
+use Rattle.inner_verifying.proofs.call.same_counts.Tie as tie
+
+returns : tie.Need-returns
+returns c = apart-n _ _ (c .if1 .taken)
+
+returns-2 : tie.Need-returns-2
+returns-2 c = apart-entries _ _ (c .before .before .before .if1 .left) (c .if2 .taken)
+
+returns-3 : tie.Need-returns-3
+returns-3 c = apart-lower-subscripts _ _ (c .before .before .before .before .before .before .if1 .left) (c .before .before .before .if2 .left) (c .if3 .taken)
+
+returns-4 : tie.Need-returns-4
+returns-4 c = apart-upper-subscripts _ _ (c .before .before .before .before .before .before .before .before .before .if1 .left) (c .before .before .before .before .before .before .if2 .left) (c .before .before .before .if3 .left) (c .if4 .taken)
+
+returns-5 : tie.Need-returns-5
+returns-5 c = apart-lower-slots _ _ (c .before .before .before .before .before .before .before .before .before .before .before .before .if1 .left) (c .before .before .before .before .before .before .before .before .before .if2 .left) (c .before .before .before .before .before .before .if3 .left) (c .before .before .before .if4 .left) (c .if5 .taken)
+
+returns-6 : tie.Need-returns-6
+returns-6 c = apart-upper-slots _ _ (c .before .before .before .before .before .before .before .before .before .before .before .before .before .before .before .if1 .left) (c .before .before .before .before .before .before .before .before .before .before .before .before .if2 .left) (c .before .before .before .before .before .before .before .before .before .if3 .left) (c .before .before .before .before .before .before .if4 .left) (c .before .before .before .if5 .left) (c .if6 .taken)
+
+returns-7 : tie.Need-returns-7
+returns-7 c = last-count _ _ (c .before .before .before .before .before .before .before .before .before .before .before .before .before .before .before .before .before .if1 .left) (c .before .before .before .before .before .before .before .before .before .before .before .before .before .before .if2 .left) (c .before .before .before .before .before .before .before .before .before .before .before .if3 .left) (c .before .before .before .before .before .before .before .before .if4 .left) (c .before .before .before .before .before .if5 .left) (c .before .before .if6 .left)
+
+pub same-counts-spec : {M : Type 1} → statement M
+same-counts-spec =
+    tie.close (tie.spec returns returns-2 returns-3 returns-4 returns-5 returns-6 returns-7)

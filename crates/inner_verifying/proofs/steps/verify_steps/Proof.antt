@@ -1,0 +1,114 @@
+-- `verify_steps` meets its contract. The loop's invariant: the lent stores contain the steps before k; its measure: the steps to
+-- come. Assumes nothing.
+use mathlib.Core.Path.{refl, sym, _∙_}
+use Prim.Native.Nat.{_+_, _-_}
+use native.Mathlib.Omega.{arith}
+use borrow.Author.Needs.{needs}
+use Rattle.foundation.specs.Pattern.{lent}
+use Rattle.inner_verifying.proofs.Coursing.{VerifyUnderway, verify-start, first-lower, first-upper, verify-differs-later, verify-step-asks, verify-turn, verify-end}
+use Rattle.inner_verifying.proofs.steps.verify_steps.Statement.{statement}
+use Rattle.inner_verifying.proofs.steps.verify_steps.Tie as tie
+
+abbrev Inv-loop : tie.InvT-loop
+Inv-loop n starts columns row-heads row-links set-heads₀ set-links₀ l-subs l-starts l-slots u-subs u-starts u-slots list₀ spare₀ l-end₀ u-end₀ reads₀ k₀ set-heads set-links list spare l-end u-end reads k =
+    VerifyUnderway (lent n starts columns) n k row-heads row-links set-heads set-links l-subs l-starts l-slots u-subs u-starts u-slots list spare (l-end .0) (u-end .0) reads
+
+abbrev μ-loop : tie.MeasureT-loop
+μ-loop n starts columns row-heads row-links set-heads₀ set-links₀ l-subs l-starts l-slots u-subs u-starts u-slots list₀ spare₀ l-end₀ u-end₀ reads₀ k₀ set-heads set-links list spare l-end u-end reads k =
+    n + 1 - k
+
+shared-slice-read-if1 : tie.Need-shared-slice-read-if1 Inv-loop μ-loop
+shared-slice-read-if1 c = omega (arith, c .before .before .before .before .before .before .before .before .before .before .before .before .before .before .before .pre .1 .1)
+
+returns : tie.Need-returns Inv-loop μ-loop
+returns c = first-lower (c .if1 .taken)
+
+shared-slice-read-if2 : tie.Need-shared-slice-read-if2 Inv-loop μ-loop
+shared-slice-read-if2 c = omega (arith, c .before .before .before .before .before .before .before .before .before .before .before .before .before .before .before .before .before .pre .1 .3)
+
+returns-2 : tie.Need-returns-2 Inv-loop μ-loop
+returns-2 c = first-upper (c .if2 .taken)
+
+loop-holds : tie.Need-loop-holds Inv-loop μ-loop
+unfolding lent
+loop-holds c = verify-start refl refl (c .before .before .before .before .before .before .before .before .before .before .before .before .before .before .before .before .before .before .pre .0) (c .before .before .before .before .before .before .before .before .before .before .before .before .before .before .before .before .before .before .pre .1) (c .before .before .if1 .left) (c .if2 .left)
+
+verify-step-requires : tie.Need-verify-step-requires Inv-loop μ-loop
+verify-step-requires c κs = verify-step-asks (c .before .before .before .before .before .loop .inv) (c .before .before .before .before .loop-test .taken)
+
+enum-told : tie.Need-enum-told Inv-loop μ-loop
+enum-told c = search needs
+
+same-length : tie.Need-same-length Inv-loop μ-loop
+same-length c = c .before .before .before .before .before .before .before .before .before .before .verify-step .kept .1 .1 .1 .1 .1 .1 .0 ∙ c .before .before .before .before .before .before .before .before .before .before .before .before .before .before .before .before .loop .inv .chains .set-chains .heads-size ∙ sym (c .before .before .before .before .before .before .before .before .before .before .before .before .before .before .before .before .before .before .before .before .before .before .before .before .before .before .before .before .before .before .before .before .before .before .before .pre .0 .1 .set-chains .heads-size)
+
+same-length-2 : tie.Need-same-length-2 Inv-loop μ-loop
+same-length-2 c = c .before .before .before .before .before .before .before .before .before .before .verify-step .kept .1 .1 .1 .1 .1 .1 .1 .0 ∙ c .before .before .before .before .before .before .before .before .before .before .before .before .before .before .before .before .loop .inv .chains .set-chains .links-size ∙ sym (c .before .before .before .before .before .before .before .before .before .before .before .before .before .before .before .before .before .before .before .before .before .before .before .before .before .before .before .before .before .before .before .before .before .before .before .pre .0 .1 .set-chains .links-size)
+
+same-length-3 : tie.Need-same-length-3 Inv-loop μ-loop
+same-length-3 c = c .before .before .before .before .before .before .before .before .before .before .verify-step .kept .1 .1 .1 .1 .1 .1 .1 .1 .1 .1 .1 .1 .1 .1 .0 ∙ c .before .before .before .before .before .before .before .before .before .before .before .before .before .before .before .before .loop .inv .list-size ∙ sym (c .before .before .before .before .before .before .before .before .before .before .before .before .before .before .before .before .before .before .before .before .before .before .before .before .before .before .before .before .before .before .before .before .before .before .before .pre .1 .4)
+
+same-length-4 : tie.Need-same-length-4 Inv-loop μ-loop
+same-length-4 c = c .before .before .before .before .before .before .before .before .before .before .verify-step .kept .1 .1 .1 .1 .1 .1 .1 .1 .1 .1 .1 .1 .1 .1 .1 .0 ∙ c .before .before .before .before .before .before .before .before .before .before .before .before .before .before .before .before .loop .inv .spare-size ∙ sym (c .before .before .before .before .before .before .before .before .before .before .before .before .before .before .before .before .before .before .before .before .before .before .before .before .before .before .before .before .before .before .before .before .before .before .before .pre .1 .5)
+
+returns-3 : tie.Need-returns-3 Inv-loop μ-loop
+returns-3 c = verify-differs-later (c .before .before .before .before .before .before .before .before .before .before .before .before .before .before .before .loop-test .taken) (rw (c .enum-told .given .1) at (c .before .before .before .before .before .before .before .before .before .before .verify-step .ensures))
+
+enum-known-turned : tie.Need-enum-known-turned Inv-loop μ-loop
+enum-known-turned c = search needs
+
+add-k : tie.Need-add-k Inv-loop μ-loop
+add-k c =
+    let under = c .before .before .before .before .before .before .before .before .before .before .before .before .before .before .before .before .before .loop .inv in
+    omega (arith, c .before .before .before .before .before .before .before .before .before .before .before .before .before .before .before .before .loop-test .taken, under .ready .few, under .same-n)
+
+loop-less : tie.Need-loop-less Inv-loop μ-loop
+loop-less c = omega (arith, c .before .before .before .before .before .before .before .before .before .before .before .before .before .before .before .before .loop-test .taken)
+
+loop-again : tie.Need-loop-again Inv-loop μ-loop
+loop-again c =
+    let on = rw (c .before .turned .given .1) at (c .before .before .before .before .before .before .before .before .before .before .before .verify-step .ensures) in
+    verify-turn (c .before .before .before .before .before .before .before .before .before .before .before .before .before .before .before .before .before .loop .inv) (c .before .before .before .before .before .before .before .before .before .before .before .before .before .before .before .before .loop-test .taken) on (c .before .before .before .before .before .before .before .before .before .before .before .verify-step .kept .1 .1 .1 .1 .1 .1 .1 .1 .1 .1 .1 .1 .1 .1 .0) (c .before .before .before .before .before .before .before .before .before .before .before .verify-step .kept .1 .1 .1 .1 .1 .1 .1 .1 .1 .1 .1 .1 .1 .1 .1 .0)
+
+same-length-5 : tie.Need-same-length-5 Inv-loop μ-loop
+same-length-5 c = c .before .loop .inv .chains .set-chains .heads-size ∙ sym (c .before .before .before .before .before .before .before .before .before .before .before .before .before .before .before .before .before .before .before .before .pre .0 .1 .set-chains .heads-size)
+
+same-length-6 : tie.Need-same-length-6 Inv-loop μ-loop
+same-length-6 c = c .before .loop .inv .chains .set-chains .links-size ∙ sym (c .before .before .before .before .before .before .before .before .before .before .before .before .before .before .before .before .before .before .before .before .pre .0 .1 .set-chains .links-size)
+
+same-length-7 : tie.Need-same-length-7 Inv-loop μ-loop
+same-length-7 c = c .before .loop .inv .list-size ∙ sym (c .before .before .before .before .before .before .before .before .before .before .before .before .before .before .before .before .before .before .before .before .pre .1 .4)
+
+same-length-8 : tie.Need-same-length-8 Inv-loop μ-loop
+same-length-8 c = c .before .loop .inv .spare-size ∙ sym (c .before .before .before .before .before .before .before .before .before .before .before .before .before .before .before .before .before .before .before .before .pre .1 .5)
+
+returns-4 : tie.Need-returns-4 Inv-loop μ-loop
+returns-4 c = verify-end (c .before .loop .inv) (c .loop-test .left)
+
+pub verify-steps-spec : {M : Type 1} → statement M
+verify-steps-spec =
+    tie.close
+    (tie.spec
+    Inv-loop
+    μ-loop
+    shared-slice-read-if1
+    returns
+    shared-slice-read-if2
+    returns-2
+    loop-holds
+    verify-step-requires
+    enum-told
+    same-length
+    same-length-2
+    same-length-3
+    same-length-4
+    returns-3
+    enum-known-turned
+    add-k
+    loop-less
+    loop-again
+    same-length-5
+    same-length-6
+    same-length-7
+    same-length-8
+    returns-4)

@@ -1,0 +1,178 @@
+// A lent plan compared with this pattern's plan, step by step: the plan is made again in work stores alone, its lists looked for in the lent
+// stores.
+ghost use mathlib.Core.Path.{_≡_};
+ghost use Prim.Native.Nat.{suc, _-_};
+ghost use lib.ListN.{length};
+ghost use Rattle.foundation.specs.Pattern.{lent};
+ghost use Rattle.inner_gathering.specs.Ready.{Ready};
+ghost use Rattle.inner_gathering.specs.Steps.{StepOf, ChainsAt, EndsAre};
+ghost use Rattle.inner_verifying.specs.Verifying.{BothContain};
+ghost use Rattle.inner_verifying.specs.Course.{VerifiedStepAs, VerifiedEndAs};
+use crate::step_lists::VerifiedLists;
+use crate::step_lists::verify_lists;
+use answers::SubscriptPlace;
+use inner_gathering::hand_on;
+use inner_gathering::step_total;
+
+// How a step ends: on to the next, or the lent plan differs.
+pub enum VerifiedStep {
+    On(SubscriptPlace, SubscriptPlace, usize),
+    Differs,
+}
+
+// Step k of verifying a lent plan.
+fn verify_step(
+    n: usize,
+    k: usize,
+    starts: &[usize],
+    columns: &[usize],
+    row_heads: &[usize],
+    row_links: &[usize],
+    set_heads: &mut [usize],
+    set_links: &mut [usize],
+    l_subs: &[usize],
+    l_starts: &[usize],
+    l_slots: &[usize],
+    u_subs: &[usize],
+    u_starts: &[usize],
+    u_slots: &[usize],
+    list: &mut [usize],
+    spare: &mut [usize],
+    l_end: SubscriptPlace,
+    u_end: SubscriptPlace,
+    reads: usize,
+) -> VerifiedStep
+    requires { ⌜ StepOf (lent n (now starts) (now columns)) n k × ChainsAt (lent n (now starts) (now columns)) n (k - 1) (now «row_heads») (now «row_links») (now «set_heads») (now «set_links») ⌝ }
+    requires { ⌜ BothContain (lent n (now starts) (now columns)) n (k - 1) (now «l_subs») (now «l_starts») (now «l_slots») (now «u_subs») (now «u_starts») (now «u_slots») ⌝ }
+    requires { ⌜ EndsAre (lent n (now starts) (now columns)) (k - 1) («l_end» .0) («u_end» .0) reads ⌝ }
+    requires { ⌜ (length (now list) ≡ n) × (length (now spare) ≡ n) ⌝ }
+    ensures { λ r. ⌜ VerifiedStepAs r (lent n (now (starts .entry)) (now (columns .entry))) n k (now («set_heads» .exit)) (now («set_links» .exit)) (now («row_heads» .entry)) (now («row_links» .entry)) (now («l_subs» .entry)) (now («l_starts» .entry)) (now («l_slots» .entry)) (now («u_subs» .entry)) (now («u_starts» .entry)) (now («u_slots» .entry)) ⌝ }
+{
+    let row = row_heads[k];
+    let set = set_heads[k];
+    let more = step_total(
+        n,
+        k,
+        row,
+        row_links,
+        set,
+        set_links,
+        starts,
+        columns,
+        l_slots,
+        u_slots,
+    );
+    let lists = verify_lists(
+        n,
+        k,
+        row,
+        row_links,
+        set,
+        set_links,
+        starts,
+        columns,
+        l_subs,
+        l_starts,
+        l_slots,
+        u_subs,
+        u_starts,
+        u_slots,
+        list,
+        spare,
+        l_end,
+        u_end,
+    );
+    match lists {
+        VerifiedLists::Differ => VerifiedStep::Differs,
+        VerifiedLists::Both(l_next, u_next) => {
+            hand_on(
+                n,
+                k,
+                starts,
+                columns,
+                l_slots,
+                u_subs,
+                u_starts,
+                u_slots,
+                set_heads,
+                set_links,
+            );
+            VerifiedStep::On(l_next, u_next, reads + more)
+        }
+    }
+}
+
+// How verifying ends: where both sides' used subscripts end and the reads, or that the lent plan differs.
+pub enum VerifiedEnd {
+    All(SubscriptPlace, SubscriptPlace, usize),
+    Differs,
+}
+
+// Steps 1 to n. The starts of the first slots are looked at before the first step.
+pub fn verify_steps(
+    n: usize,
+    starts: &[usize],
+    columns: &[usize],
+    row_heads: &[usize],
+    row_links: &[usize],
+    set_heads: &mut [usize],
+    set_links: &mut [usize],
+    l_subs: &[usize],
+    l_starts: &[usize],
+    l_slots: &[usize],
+    u_subs: &[usize],
+    u_starts: &[usize],
+    u_slots: &[usize],
+    list: &mut [usize],
+    spare: &mut [usize],
+) -> VerifiedEnd
+    requires { ⌜ Ready (lent n (now starts) (now columns)) × ChainsAt (lent n (now starts) (now columns)) n 0 (now «row_heads») (now «row_links») (now «set_heads») (now «set_links») ⌝ }
+    requires { ⌜ (length (now «l_starts») ≡ n) × (length (now «l_slots») ≡ suc n) × (length (now «u_starts») ≡ n) × (length (now «u_slots») ≡ suc n) × (length (now list) ≡ n) × (length (now spare) ≡ n) ⌝ }
+    ensures { λ r. ⌜ VerifiedEndAs r (lent n (now (starts .entry)) (now (columns .entry))) n (now («l_subs» .entry)) (now («l_starts» .entry)) (now («l_slots» .entry)) (now («u_subs» .entry)) (now («u_starts» .entry)) (now («u_slots» .entry)) ⌝ }
+{
+    if l_slots[0] != 0 {
+        return VerifiedEnd::Differs;
+    }
+    if u_slots[0] != 0 {
+        return VerifiedEnd::Differs;
+    }
+    let mut l_end = SubscriptPlace(0);
+    let mut u_end = SubscriptPlace(0);
+    let mut reads = columns.len();
+    let mut k = 1;
+    while k <= n {
+        let turned = verify_step(
+            n,
+            k,
+            starts,
+            columns,
+            row_heads,
+            row_links,
+            set_heads,
+            set_links,
+            l_subs,
+            l_starts,
+            l_slots,
+            u_subs,
+            u_starts,
+            u_slots,
+            list,
+            spare,
+            l_end,
+            u_end,
+            reads,
+        );
+        match turned {
+            VerifiedStep::Differs => {
+                return VerifiedEnd::Differs;
+            }
+            VerifiedStep::On(l_next, u_next, more) => {
+                l_end = l_next;
+                u_end = u_next;
+                reads = more;
+                k += 1;
+            }
+        }
+    }
+    VerifiedEnd::All(l_end, u_end, reads)
+}
