@@ -12,9 +12,17 @@ pub mod Room
 pub mod Stores
 pub mod Inside
 pub mod FreeSteps
+pub mod FreeLists
 pub mod FloatSteps
 pub mod FloatRun
 pub mod LaidBack
+pub mod OwnSlots
+pub mod MetOnce
+pub mod JobRoom
+pub mod Alike
+pub mod Enough
+pub mod Accepted
 pub mod Theorems
 pub mod Open
 pub mod Marked
+pub mod Cases

@@ -1,4 +1,4 @@
--- The theorems that a release rests on, in one place: of every pattern that passes 1 to 5.
+-- The theorems that a release rests on, in one place: most of every pattern that passes 1 to 5, some of any pattern or plan, as each says.
 use mathlib.Core.Bool.{not}
 use mathlib.Core.List.{[]}
 use mathlib.Core.Path.{_≡_, ap}
@@ -11,15 +11,24 @@ use Rattle.foundation.specs.Pattern.{Lent, Pattern, patternOf, patternFa
 use Rattle.foundation.specs.Plan.{Side, plan}
 use Rattle.foundation.specs.Subscripts.{kept}
 use Rattle.foundation.specs.Facts.{PlanFacts, Opens, sizesOf}
-use Rattle.foundation.specs.Claims.{SlotsSuffice, MultipliersStay, ZeroOutside, LaidBack}
+use Rattle.foundation.specs.Claims.{FirstHalf, RunsOn, SlotsSuffice, MultipliersStay, ZeroOutside, LaidBack, OwnSlots, MetOnce, JobRoom, RunsAlike, ListedPivots, PlanAccepted, RoomEnough, SlotsEnough}
 use Rattle.foundation.proofs.Passing.{passes-plannable, passes-entries}
 use Rattle.foundation.proofs.Steps.{list-none}
 use Rattle.foundation.proofs.PlanFacts.{plan-facts}
 use Rattle.foundation.proofs.Opening.{opens}
 use Rattle.foundation.proofs.FreeSteps
 use Rattle.foundation.proofs.FreeSteps.{slots-suffice-from}
+use Rattle.foundation.proofs.FreeLists
+use Rattle.foundation.proofs.FreeLists.{first-half-from}
 use Rattle.foundation.proofs.FloatRun.{zero-outside-from}
 use Rattle.foundation.proofs.LaidBack.{laid-back-from}
+use Rattle.foundation.proofs.OwnSlots
+use Rattle.foundation.proofs.MetOnce.{met-once-from}
+use Rattle.foundation.proofs.JobRoom
+use Rattle.foundation.proofs.Alike
+use Rattle.foundation.proofs.Alike.{runs-alike-from}
+use Rattle.foundation.proofs.Accepted
+use Rattle.foundation.proofs.Enough.{room-enough-from, slots-enough-from}
 
 -- the plan's facts
 pub plan-has-its-facts : (most : ℕ) (p : Lent) → patternFault most p ≡ 0 → PlanFacts (patternOf p) (plan (patternOf p))
@@ -42,11 +51,19 @@ unfolding patternOf
 subscripts-open most p passes side =
     opens (plan (patternOf p)) side (p .n) ((plan-has-its-facts most p passes) .sole side) (nothing-kept (patternOf p) side)
 
--- demand 3, first half
+-- each nonzero of a free elimination stands in a slot
 pub slots-suffice : SlotsSuffice
 slots-suffice = slots-suffice-from plan-facts passes-plannable
 
--- demand 3: earlier multipliers stay where they were written
+-- demand 3, first half: one claim about the whole list of steps
+pub first-half : FirstHalf
+first-half = first-half-from slots-suffice
+
+-- a free elimination goes on from where it came
+pub runs-on : RunsOn
+runs-on = FreeLists.runs-on
+
+-- earlier multipliers stay where they were written, from any state
 pub multipliers-stay : MultipliersStay
 multipliers-stay = FreeSteps.multipliers-stay
 
@@ -57,3 +74,34 @@ zero-outside = zero-outside-from plan-facts passes-plannable
 -- the square is determined by its slots
 pub laid-back : LaidBack
 laid-back = laid-back-from plan-facts passes-plannable
+
+-- each place of the square that has a slot has one of its own
+pub own-slots : OwnSlots
+own-slots = OwnSlots.own-slots
+
+-- each row is met exactly once
+pub met-once : MetOnce
+met-once = met-once-from plan-facts passes-plannable
+
+-- the program's stores fit but for their room of 2,048
+pub job-room : JobRoom
+job-room = JobRoom.job-room
+
+-- demand 3, second half
+pub runs-alike : RunsAlike
+runs-alike = runs-alike-from plan-facts passes-plannable
+
+-- with a given list the pivot rows are the list's
+pub listed-pivots : ListedPivots
+listed-pivots = Alike.listed-pivots
+
+-- a plan just made is the pattern's plan
+pub plan-accepted : PlanAccepted
+plan-accepted = Accepted.plan-accepted
+
+-- n(n-1)/2 subscripts a side, and as many slots, are always enough
+pub room-enough : RoomEnough
+room-enough = room-enough-from plan-facts passes-plannable
+
+pub slots-enough : SlotsEnough
+slots-enough = slots-enough-from plan-facts passes-plannable

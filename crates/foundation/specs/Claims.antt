@@ -1,22 +1,56 @@
--- The claims about every run, each one proposition that can be read alone. "A pattern that can be planned" is one that passes 1 to 5:
--- its `patternFault` is 0, whatever the largest n.
+-- The claims about every elimination, free or float, about the slots, the rows met and the program's room: each one proposition that can be read alone.
+-- "A pattern that can be planned" is one that passes 1 to 5: its `patternFault` is 0, whatever the largest n.
 use mathlib.Core.Bool.{Bool, true, false}
-use mathlib.Core.List.{List}
+use mathlib.Core.List.{List, _++_, map}
+use mathlib.Core.Logic.{_↔_}
 use mathlib.Core.Path.{_≡_}
-use Prim.Native.Nat.{ℕ, _≤_, _<_}
+use Prim.Native.Nat.{ℕ, _-_, _*_, _≤_, _<_}
+use lib.Dec.{eqb}
 use lib.Ieee.{Float}
-use lib.ListN.{take}
-use Rattle.foundation.specs.Pattern.{Lent, Pattern, patternOf, patternFault}
-use Rattle.foundation.specs.Plan.{plan, lower, upper}
-use Rattle.foundation.specs.Slots.{hasSlot}
+use lib.ListN.{length, take}
+use Rattle.lists.specs.Functions.{keep, chain, padded}
+use Rattle.lists.specs.Sets.{upto}
+use Rattle.foundation.specs.Answer.{Answer, refused, granted, andThen}
+use Rattle.foundation.specs.Pattern.{Lent, Pattern, patternOf, patternFault, judged}
+use Rattle.foundation.specs.Plan.{Planning, Side, plan, lower, upper}
+use Rattle.foundation.specs.Subscripts.{roomFault}
+use Rattle.foundation.specs.Slots.{hasSlot, none, slotAt, slotsOf}
 use Rattle.foundation.specs.Numbers.{plusZero}
 use Rattle.foundation.specs.Square.{Square}
-use Rattle.foundation.specs.Reference.{Choice, Extent, Going, going, reference}
+use Rattle.foundation.specs.Reference.{Choice, listed, Extent, whole, stepsOf, Going, Course, going, stopped, numberOf, reference}
 use Rattle.foundation.specs.Shown.{shown, shownDiagonal, laid}
-use Rattle.foundation.specs.Free.{FreeStep, FreeState, freeStart, freeRun}
-use Rattle.foundation.specs.RunCall.{orderFits}
+use Rattle.foundation.specs.Free.{FreeStep, FreeState, freeStart, freeRun, freeAfter}
+use Rattle.foundation.specs.PlanCall.{PlanStores, LentPlan, WorkSizes, workFits, sizesFit, agrees, countsOf, planned, planLeaves, held}
+use Rattle.foundation.specs.RunCall.{Lending, lendingFits, allFinite, orderFits, valueAt, rightAt, Ran, ranWith, ran, runAnswer, RunStores, runLeaves}
+use Rattle.foundation.specs.Job.{Job}
+use Rattle.foundation.specs.Printing.{jobRun}
 
--- Demand 3, first half: for every pattern that can be planned, every set of numbers at its places (of any kind A, of which only whether one
+-- Demand 3, first half, "one claim about the whole list of steps, the empty list included": for every pattern that can be planned, every set of
+-- numbers at its places (of any kind A, of which only whether one is zero counts), and every list of steps of the free elimination, refused steps
+-- included: after the first t of them, for every t, each nonzero of the square stands in one of the plan's slots, and what then stands before column k,
+-- multipliers among it, stands there after the first t′ steps too, for every t′ from t on.
+unfoldable pub FirstHalf : Type 1
+FirstHalf =
+    (most : ℕ) (p : Lent)
+    → patternFault most p ≡ 0
+    → (A : Type 0) (isZero : A → Bool) (zero : A)
+    → isZero zero ≡ true
+    → (values : Square A) (steps : List (FreeStep A)) (t i j : ℕ)
+    → (isZero ((freeAfter (patternOf p) isZero zero values steps t) .square i j) ≡ false
+    → (1 ≤ i) × (i ≤ p .n) × (1 ≤ j) × (j ≤ p .n) × (hasSlot (plan (patternOf p)) i j ≡ true))
+    × ((t′ : ℕ)
+    → t ≤ t′
+    → j < (freeAfter (patternOf p) isZero zero values steps t) .k
+    → (freeAfter (patternOf p) isZero zero values steps t′) .square i j ≡ (freeAfter (patternOf p) isZero zero values steps t) .square i j)
+
+-- "Each step gets the square and the k that the last one left; nothing else writes them": the run of a list and what follows it is the run of what
+-- follows from where the list came.
+unfoldable pub RunsOn : Type 1
+RunsOn =
+    (p : Pattern) (A : Type 0) (isZero : A → Bool) (s : FreeState A) (steps later : List (FreeStep A))
+    → freeRun p isZero s (steps ++ later) ≡ freeRun p isZero (freeRun p isZero s steps) later
+
+-- The first part of `FirstHalf` alone: for every pattern that can be planned, every set of numbers at its places (of any kind A, of which only whether one
 -- is zero counts) and every list of steps of the free elimination, refused steps included, at the start and after every step, that is after
 -- the first t of them for every t, each nonzero of the square stands in one of the plan's slots.
 unfoldable pub SlotsSuffice : Type 1
@@ -29,7 +63,8 @@ SlotsSuffice =
     → isZero ((freeRun (patternOf p) isZero (freeStart (patternOf p) zero values) (take t steps)) .square i j) ≡ false
     → (1 ≤ i) × (i ≤ p .n) × (1 ≤ j) × (j ≤ p .n) × (hasSlot (plan (patternOf p)) i j ≡ true)
 
--- Demand 3: "earlier multipliers staying where they were written": whatever steps follow, refused or taken, columns before k stay.
+-- The second part of `FirstHalf`, "earlier multipliers staying where they were written", from any state: whatever steps follow, refused or taken, columns before
+-- k stay.
 unfoldable pub MultipliersStay : Type 1
 MultipliersStay =
     (p : Pattern) (A : Type 0) (isZero : A → Bool) (s : FreeState A) (steps : List (FreeStep A)) (i j : ℕ)
@@ -63,3 +98,107 @@ LaidBack =
     → (1 ≤ i) × (i ≤ p .n) × (1 ≤ j) × (j ≤ p .n)
     → laid (plan (patternOf p)) (shown (plan (patternOf p)) lower (p .n) (g .square)) (shown (plan (patternOf p)) upper (p .n) (g .square)) (shownDiagonal (p .n) (g .square)) i j
     ≡ (g .square) i j
+
+-- Each place of the square that has a slot has one of its own: a place has a slot exactly where `slotAt` is some slot, and two places of the square
+-- never have the same.
+unfoldable pub OwnSlots : Type 0
+OwnSlots =
+    (s : Planning) (i j : ℕ)
+    → ((hasSlot s i j ≡ true) ↔ (slotAt s i j ≡ none → ⊥))
+    × ((i′ j′ : ℕ)
+    → (1 ≤ i) × (1 ≤ j) × (1 ≤ i′) × (1 ≤ j′)
+    → hasSlot s i j ≡ true
+    → slotAt s i j ≡ slotAt s i′ j′
+    → (i ≡ i′) × (j ≡ j′))
+
+-- Each row is met exactly once: in the lists of rows first met at steps 1 to n, one behind the other, row i stands once.
+unfoldable pub MetOnce : Type 0
+MetOnce =
+    (most : ℕ) (p : Lent)
+    → patternFault most p ≡ 0
+    → (i : ℕ)
+    → (1 ≤ i) × (i ≤ p .n)
+    → length (keep (eqb i) (chain ((plan (patternOf p)) .firstMet) (upto (p .n)))) ≡ 1
+
+-- What the program lends always fits but for its room: a job's run is never refused with 6, and 7, 8 and 10 are those of 2,048 subscripts and 2,048 slots
+-- a side.
+unfoldable pub JobRoom : Type 0
+JobRoom =
+    (job : Job)
+    → jobRun job
+    ≡ andThen
+    (andThen (judged 128 (job .pattern)) (λ pattern. roomFault (plan pattern) 2048 2048 1 (job .pattern .n)))
+    (ranWith (job .pattern) (job .choice) whole
+    (record {
+      values = job .values;
+      right = job .right;
+      solution = job .pattern .n;
+      pivots = job .pattern .n;
+      diagonal = job .pattern .n;
+      lowerSlots = 2048;
+      upperSlots = 2048;
+    }))
+
+-- ---- demand 3, second half: the run in the slots and the full square's
+
+-- The full square came to its end, g, and so did the run: the answer is finished with the square's updates; at every place (i, j) of the square
+-- the result stores read its number, bits and all, which is +0 where there is no slot; the solution store has its right side (whole: the
+-- solution); the pivot rows are its own, and 0 after the last step done.
+pub record RunAlike (p : Lent) (w : Lending) (g : Going) (answer : Answer Ran) : Type 0 where
+  pub finished : runAnswer answer ≡ granted (g .updates)
+  pub places :
+      (i j : ℕ) → (1 ≤ i) × (i ≤ p .n) × (1 ≤ j) × (j ≤ p .n)
+      → laid (plan (patternOf p)) ((runLeaves p w answer) .lowerSlots) ((runLeaves p w answer) .upperSlots) ((runLeaves p w answer) .diagonal) i j ≡ (g .square) i j
+  pub outside : (i j : ℕ) → hasSlot (plan (patternOf p)) i j ≡ false → (g .square) i j ≡ plusZero
+  pub solution : (runLeaves p w answer) .solution ≡ map (g .right) (upto (p .n))
+  pub pivots : (runLeaves p w answer) .pivots ≡ padded 0 (p .n) (g .pivots)
+
+-- Either the full square comes to its end and the run is alike, or it stops and the run is refused with the same number, 13 or 14, at the same step.
+unfoldable pub RunIs : Lent → Lending → Course → Answer Ran → Type 0
+RunIs p w (going g) answer = RunAlike p w g answer
+RunIs p w (stopped reason k) answer = runAnswer answer ≡ refused (numberOf reason) k
+
+-- Demand 3, second half: for every pattern that passes 1 to 5, with its plan lent in stores of the right lengths (6, 9), values and right side as
+-- many as they should be and stores that have room for the planned slots (10), all finite (11), either choice of rows and every list and extent that
+-- 12 lets pass, the run is what the full square's is. No such run is refused for storage.
+unfoldable pub RunsAlike : Type 0
+RunsAlike =
+    (most : ℕ) (p : Lent) (q : LentPlan) (work : WorkSizes) (choice : Choice) (extent : Extent) (w : Lending)
+    → patternFault most p ≡ 0
+    → sizesFit p (q .stores) work ≡ true
+    → agrees p (plan (patternOf p)) q ≡ true
+    → lendingFits p (plan (patternOf p)) w ≡ true
+    → allFinite w ≡ true
+    → orderFits (patternOf p) choice extent ≡ true
+    → RunIs p w (reference choice extent (patternOf p) (valueAt p (w .values)) (rightAt (w .right))) (ran most p q work choice extent w)
+
+-- Document 01: "pivot rows are p_k up to the last step done": with a given list, the square's pivot rows are the list's first ones.
+unfoldable pub ListedPivots : Type 0
+ListedPivots =
+    (p : Pattern) (rows : List ℕ) (extent : Extent)
+    → orderFits p (listed rows) extent ≡ true
+    → (values : Square Float) (right : ℕ → Float) (g : Going)
+    → reference (listed rows) extent p values right ≡ going g
+    → g .pivots ≡ take (stepsOf extent (p .n)) rows
+
+-- What planning leaves in its stores, lent with the counts that it answered, is this pattern's plan: 9 never meets a plan just made.
+unfoldable pub PlanAccepted : Type 0
+PlanAccepted =
+    (most : ℕ) (p : Lent) (stores : PlanStores) (work later : WorkSizes) (s : Planning)
+    → planned most p stores work ≡ granted s
+    → workFits p later ≡ true
+    → held most p (record { counts = countsOf p s; stores = planLeaves p (granted s) stores }) later ≡ granted s
+
+-- n(n-1)/2 subscripts a side are always room enough: who lends that many never sees 7 or 8.
+unfoldable pub RoomEnough : Type 0
+RoomEnough =
+    (most : ℕ) (p : Lent) (stores : PlanStores) (work : WorkSizes)
+    → patternFault most p ≡ 0
+    → sizesFit p stores work ≡ true
+    → p .n * (p .n - 1) ≤ 2 * length (stores .lowerSide .subs)
+    → p .n * (p .n - 1) ≤ 2 * length (stores .upperSide .subs)
+    → planned most p stores work ≡ granted (plan (patternOf p))
+
+-- and n(n-1)/2 slots a side are as many as any plan has.
+unfoldable pub SlotsEnough : Type 0
+SlotsEnough = (most : ℕ) (p : Lent) → patternFault most p ≡ 0 → (side : Side) → 2 * slotsOf (plan (patternOf p)) side (p .n) ≤ p .n * (p .n - 1)

@@ -1,4 +1,4 @@
--- What is claimed of every plan.
+-- What is claimed of the plan of every pattern that can be planned, and of its shared subscripts.
 use mathlib.Core.Bool.{true}
 use mathlib.Core.List.{_∷_}
 use mathlib.Core.Logic.{_↔_}
@@ -28,9 +28,9 @@ entriesOf p = total (λ i. length (p .row i)) (upto (p .height))
 unfoldable pub sizesOf : Pattern → Planning → ℕ
 sizesOf p s = total (λ k. length (s .L k) + length (s .U k)) (upto (p .n))
 
--- Members of L_k and U_k lie in k on and ascend strictly; k is in both; L_k lies in U_k; each row is met exactly once, at its least column;
--- each step joins at most one S, that of r; where S_k is one step l and no row was first met at k, l's kept lists are k and then k's kept
--- lists; the lists are closed; "The reads never exceed 2 × entries plus the sizes of all L_k and U_k".
+-- Members of L_k and U_k lie in k on and ascend strictly; k is in both; L_k, as far as n, lies in U_k; a row is among those first met at k exactly if k
+-- is its least column (that it is met once, `Claims.MetOnce`); a step that joined S_k joined it as its r; where S_k is one step l and no row was first met at
+-- k, l's kept lists are k and then k's kept lists; the lists are closed; "The reads never exceed 2 × entries plus the sizes of all L_k and U_k".
 pub record PlanFacts (p : Pattern) (s : Planning) : Type 0 where
   pub ascending : (side : Side) (k : ℕ) → Ascending k (list s side k)
   pub lower-bounded : (k i : ℕ) → member i (s .L k) ≡ true → i ≤ p .height

@@ -4,6 +4,7 @@ use mathlib.Core.Bool.{Bool, cond, not, _&&_}
 use mathlib.Core.List.{List, [], _∷_}
 use Prim.Native.Nat.{ℕ, suc}
 use lib.Dec.{eqb, ltb, leb}
+use lib.ListN.{take}
 use Rattle.foundation.specs.Pattern.{Pattern}
 use Rattle.foundation.specs.Square.{Square, placed, exchanged}
 
@@ -49,3 +50,7 @@ module _ {ℓ} {A : Type ℓ} where
   unfoldable pub freeRun : Pattern → (A → Bool) → FreeState A → List (FreeStep A) → FreeState A
   freeRun p isZero s [] = s
   freeRun p isZero s (step ∷ steps) = freeRun p isZero (freeStep p isZero s step) steps
+
+  -- the state after the first t of a list of steps, refused ones counted, from the given numbers on
+  unfoldable pub freeAfter : Pattern → (A → Bool) → A → Square A → List (FreeStep A) → ℕ → FreeState A
+  freeAfter p isZero zero values steps t = freeRun p isZero (freeStart p zero values) (take t steps)

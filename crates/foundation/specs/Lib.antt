@@ -1,5 +1,5 @@
--- The definitions that every contract and theorem is held to. Each cites the sentence of document 01 (the scope) or the step of report
--- CS-84-43 that it renders.
+-- The definitions that every contract and theorem is held to. Each that renders a sentence of document 01 (the scope) or a step of report CS-84-43
+-- cites it. `Facts`, `Closed` and `Claims` say what is claimed of them; `Marked` and `Cases` are tables of computed cases.
 pub mod Answer
 pub mod Pattern
 pub mod Plan
@@ -19,4 +19,6 @@ pub mod Job
 pub mod Printing
 pub mod Facts
 pub mod Claims
+pub mod Table
 pub mod Marked
+pub mod Cases

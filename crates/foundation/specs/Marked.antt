@@ -1,15 +1,12 @@
 -- The cases that document 01 marks M1 to M10, as one table, and others that are small enough to compute. Each row sets what the
 -- definitions yield beside what document 01 says.
-use mathlib.Core.Bool.{Bool, true, false, _&&_}
 use mathlib.Core.List.{List, [], _∷_, _++_, map}
-use mathlib.Core.Path.{_≡_}
 use Prim.Native.Nat.{ℕ, zero, suc, _/_, _%_}
 use lib.Ieee.{Float, binary64, ofInt, neg}
 use lib.IntN.{pos}
 use lib.ListN.{length}
-use Rattle.lists.specs.Functions.{all, same}
 use Rattle.lists.specs.Sets.{upto}
-use Rattle.foundation.specs.Answer.{Answer, refused, granted}
+use Rattle.foundation.specs.Answer.{Answer}
 use Rattle.foundation.specs.Pattern.{Lent, lent, patternOf, maxN}
 use Rattle.foundation.specs.Plan.{Planning, lower, upper, plan}
 use Rattle.foundation.specs.Subscripts.{kept, startsStore}
@@ -18,6 +15,7 @@ use Rattle.foundation.specs.Reference.{Choice, largest, listed, Extent, 
 use Rattle.foundation.specs.Shown.{shown, shownDiagonal}
 use Rattle.foundation.specs.PlanCall.{planned, subscripts}
 use Rattle.foundation.specs.RunCall.{Lending, Ran, ranWith}
+use Rattle.foundation.specs.Table.{fourFields, told, refusal, grant, Case, case}
 use Rattle.foundation.specs.Text.{ascii}
 use Rattle.foundation.specs.Printing.{blankStores, fittingWork}
 
@@ -26,10 +24,6 @@ use Rattle.foundation.specs.Printing.{blankStores, fittingWork}
 -- a whole number as f64
 float : ℕ → Float
 float k = ofInt binary64 (pos k)
-
--- "Four fields; rows {1,3}, {2,4}, {1,3}, {2,3,4}; values (2,1), (1,1), (4,4), (2,1,4); right side 3, 2, 8, 7."
-unfoldable pub fourFields : Lent
-fourFields = lent 4 (0 ∷ 2 ∷ 4 ∷ 6 ∷ 9 ∷ []) (1 ∷ 3 ∷ 2 ∷ 4 ∷ 1 ∷ 3 ∷ 2 ∷ 3 ∷ 4 ∷ [])
 
 unfoldable pub fourValues : List Float
 unfolding float
@@ -63,18 +57,6 @@ twoRun extent values =
 
 -- ---- what a row shows
 
--- 0 and the number and step of a refusal, or 1 and what was granted
-unfoldable pub told : {A : Type 0} → (A → List (List ℕ)) → Answer A → List (List ℕ)
-told show (refused number step) = (0 ∷ number ∷ step ∷ []) ∷ []
-told show (granted a) = (1 ∷ []) ∷ show a
-
--- how a row expects a refusal, and what was granted
-unfoldable pub refusal : ℕ → ℕ → List (List ℕ)
-refusal number step = (0 ∷ number ∷ step ∷ []) ∷ []
-
-unfoldable pub grant : List (List ℕ) → List (List ℕ)
-grant shown = (1 ∷ []) ∷ shown
-
 unfoldable pub showUpdates : Ran → List (List ℕ)
 showUpdates r = (r .end .updates ∷ []) ∷ []
 
@@ -105,28 +87,6 @@ unfolding float
 bits ks = map (λ k. bitsOf (float k)) ks
 
 -- ---- the table
-
--- whether two lists of lists are the same
-unfoldable pub sameLists : List (List ℕ) → List (List ℕ) → Bool
-sameLists [] [] = true
-sameLists [] (y ∷ ys) = false
-sameLists (x ∷ xs) [] = false
-sameLists (x ∷ xs) (y ∷ ys) = same x y && sameLists xs ys
-
-pub record Case : Type 0 where
-  pub found : List (List ℕ)
-  pub expected : List (List ℕ)
-
-unfoldable pub case : List (List ℕ) → List (List ℕ) → Case
-case found expected = record { found = found; expected = expected }
-
--- whether what was found is what should be
-unfoldable pub matches : Case → Bool
-matches c = sameLists (c .found) (c .expected)
-
--- every row of a table shows what it should: one proposition
-unfoldable pub Holds : List Case → Type 0
-Holds table = all matches table ≡ true
 
 unfoldable pub fourPlan : Planning
 fourPlan = plan (patternOf fourFields)

@@ -45,10 +45,14 @@ jobLending job =
       upperSlots = jobRoom;
     }
 
+-- the stores of the job's plan, 2,048 subscripts a side
+unfoldable pub jobStores : Job → PlanStores
+jobStores job = blankStores (job .pattern .n) jobRoom jobRoom
+
 -- "then as the rest": plan, then a whole run by the largest entry or by the job's list
 unfoldable pub jobRun : Job → Answer Ran
 jobRun job =
-    andThen (planned maxJobN (job .pattern) (blankStores (job .pattern .n) jobRoom jobRoom) fittingWork) (ranWith (job .pattern) (job .choice) whole (jobLending job))
+    andThen (planned maxJobN (job .pattern) (jobStores job) fittingWork) (ranWith (job .pattern) (job .choice) whole (jobLending job))
 
 -- ---- bytes
 

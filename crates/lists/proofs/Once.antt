@@ -1,13 +1,16 @@
 -- Lists with no member twice: falling lists, ascending lists, lists that share no member, one behind the other.
-use mathlib.Core.Path.{_≡_, sym, _∙_}
+use mathlib.Core.Path.{_≡_, refl, sym, ap, _∙_}
 use mathlib.Core.Logic.{⊎-elim}
 use mathlib.Core.Bool.{true, false, true≢false}
 use mathlib.Core.List.{List, [], _∷_, _++_}
 use Prim.Native.Nat.{ℕ, suc, _≤_, _<_}
 use native.Mathlib.Omega.{arith}
-use Rattle.lists.specs.Functions.{chain}
+use lib.Dec.{eqb}
+use lib.ListN.{length}
+use borrow.Author.Tests.{eqb-true, eqb-false}
+use Rattle.lists.specs.Functions.{keep, chain}
 use Rattle.lists.specs.Sets.{member, Ascending}
-use Rattle.lists.proofs.Members.{fails, or-true-cases, or-left, or-right, member-head, member-tail, member-cases, member-append, not-member-nil}
+use Rattle.lists.proofs.Members.{by-test, fails, or-true-cases, or-left, or-right, member-head, member-tail, member-cases, member-append, not-member-nil}
 use Rattle.lists.proofs.Order.{member-above}
 
 -- no member stands twice
@@ -86,3 +89,19 @@ once-chain f (k ∷ ks) h each apart = once-append (f k) (chain f ks)
     let r = chain-cases x f ks n in
     let q : r .0 ≡ k = apart (r .0) k x (member-tail (r .0) k ks (r .1)) (member-head k ks) (r .2) m in
     true≢false (sym (rw q at (r .1)) ∙ h .0)
+
+-- no member, no place where it stands
+pub count-none : (x : ℕ) (xs : List ℕ) → member x xs ≡ false → length (keep (eqb x) xs) ≡ 0
+unfolding keep member
+count-none x [] m = refl
+count-none x (y ∷ ys) m = by-test (eqb x y)
+    (λ e. absurd (true≢false (sym (rw e) ∙ m)))
+    (λ e. rw e (count-none x ys (rw e at m)))
+
+-- a member of a list with none twice stands there once
+pub once-count : (x : ℕ) (xs : List ℕ) → Once xs → member x xs ≡ true → length (keep (eqb x) xs) ≡ 1
+unfolding Once keep
+once-count x [] h m = absurd (not-member-nil x m)
+once-count x (y ∷ ys) h m = by-test (eqb x y)
+    (λ e. let q : x ≡ y = eqb-true x y e in rw e (ap suc (count-none x ys (rw q (h .0)))))
+    (λ e. rw e (once-count x ys (h .1) (⊎-elim (λ q. absurd (eqb-false x y e q)) (λ n. n) (member-cases x y ys m))))
