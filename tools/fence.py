@@ -17,6 +17,8 @@ import sys
 # The open crate of each part, and its inner crates.
 PARTS = {
     "planning": ["inner_stores", "inner_gathering", "inner_sharing", "inner_step", "inner_planning", "inner_verifying"],
+    "elimination": ["inner_slots", "inner_exchange", "inner_sides", "inner_column", "inner_steps", "inner_loading", "inner_solving",
+                    "inner_running", "inner_answering"],
 }
 
 

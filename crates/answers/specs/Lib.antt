@@ -1,3 +1,5 @@
 -- What the contracts of planning's calls cite besides the foundation.
 pub mod Answers
 pub mod Stores
+pub mod Runs
+pub mod RunStores

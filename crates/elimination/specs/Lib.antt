@@ -1,0 +1,2 @@
+-- What the calls of the elimination promise.
+pub mod Calls

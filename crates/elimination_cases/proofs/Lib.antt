@@ -1,0 +1,2 @@
+-- A law for the casts of the program.
+pub mod Patterns

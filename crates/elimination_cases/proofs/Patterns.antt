@@ -1,0 +1,23 @@
+-- Bit patterns and NaN: what the casts between numbers and patterns ask.
+use mathlib.Core.Bool.{Bool, true, false, not}
+use mathlib.Core.Path.{_≡_, _∙_}
+use Prim.Native.Nat.{ℕ, _%_, _≤_}
+use native.Mathlib.Omega.{arith}
+use lib.Dec.{T}
+use lib.Ieee.{Float, nan, inf, fin, isNan, binary64, nanBits, eq}
+use lib.Ieee.Bits.{nanBits-above}
+use borrow.Author.Tests.{le-ltb}
+
+-- what equals itself is no NaN
+pub self-number : (x : Float) → eq x x ≡ true → T (not (isNan x))
+unfolding eq isNan
+self-number nan e = absurd (false-true e)
+  where
+    false-true : _≡_ {A = Bool} false true → ⊥
+    false-true e = let z : _≡_ {A = ℕ} 0 1 = cc in omega arith
+self-number (inf s) e = tt
+self-number (fin s m k) e = tt
+
+-- a pattern without its sign that does not pass infinity's is no NaN's
+pub pattern-number : (bits : ℕ) → bits % 0x8000_0000_0000_0000 ≤ 0x7ff0_0000_0000_0000 → T (not (nanBits binary64 bits))
+pattern-number bits h = rw (nanBits-above binary64 bits ∙ le-ltb _ _ h) tt

@@ -1,0 +1,4 @@
+-- Laws of a step's column, right side and diagonal.
+pub mod Dividing
+pub mod Rewriting
+pub mod Columns

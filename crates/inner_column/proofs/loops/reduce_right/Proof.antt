@@ -1,0 +1,138 @@
+-- `reduce_right` meets its contract: the loop's invariant is `Rewritten`, of the rows done.
+use mathlib.Core.List.{List, map}
+use mathlib.Core.Logic.{⊎-elim}
+use mathlib.Core.Path.{_≡_, refl, ap, _∙_}
+use Prim.Native.Nat.{ℕ, _≤_, _<_, _-_}
+use lib.Ieee.{Float, nan, ofBits}
+use lib.ListN.{length, getD, take, length-set}
+use borrow.Author.Needs.{needs}
+use Rattle.lists.specs.Sets.{upto}
+use Rattle.inner_slots.proofs.Flags.{flag-set, flag-left}
+use Rattle.inner_column.specs.Column.{followed, Rewritten}
+use Rattle.inner_column.proofs.Rewriting.{row-place, row-low, rewriting-start, rewriting-reads, rewriting-turn, rewriting-end, follows, follows-not, followed-read}
+use Rattle.inner_column.proofs.loops.reduce_right.Statement.{statement}
+use Rattle.inner_column.proofs.loops.reduce_right.Tie as tie
+
+abbrev Inv-loop : tie.InvT-loop
+Inv-loop x₀ rows factors k flag top bad₀ t₀ x bad t = (t ≤ length rows) × (length x ≡ length x₀) × (top ≡ getD x₀ (k - 1) nan)
+    × ((f m : ℕ → Float) → x₀ ≡ map f (upto (length x₀)) → factors ≡ map m rows → Rewritten f (λ i. followed (m i) (f k) (f i)) (take t rows) (length x₀) flag x bad)
+
+abbrev μ-loop : tie.MeasureT-loop
+μ-loop x₀ rows factors k flag top bad₀ t₀ x bad t = length rows - t
+
+sub-top : tie.Need-sub-top Inv-loop μ-loop
+sub-top c = search needs
+
+mul-top : tie.Need-mul-top Inv-loop μ-loop
+mul-top c = search needs
+
+slice-read-top : tie.Need-slice-read-top Inv-loop μ-loop
+slice-read-top c = search needs
+
+loop-holds : tie.Need-loop-holds Inv-loop μ-loop
+loop-holds c = (search needs, refl, refl, λ f m e v. rewriting-start _ _ _ _ _ e)
+
+mul-i : tie.Need-mul-i Inv-loop μ-loop
+mul-i c = search needs
+
+shared-slice-read-i : tie.Need-shared-slice-read-i Inv-loop μ-loop
+shared-slice-read-i c = search needs
+
+mul-m : tie.Need-mul-m Inv-loop μ-loop
+mul-m c = search needs
+
+shared-slice-read-m : tie.Need-shared-slice-read-m Inv-loop μ-loop
+shared-slice-read-m c = search needs
+
+sub-old : tie.Need-sub-old Inv-loop μ-loop
+sub-old c =
+    let b = c .before .before .before in
+    let g = b .before .before in
+    let f = row-low _ (g .args .rows .now) (b .loop .t) (g .pre .3) (g .pre .4) (search needs) in search needs
+
+mul-old : tie.Need-mul-old Inv-loop μ-loop
+mul-old c =
+    let b = c .before .before .before in
+    let g = b .before .before in
+    let f = row-low _ (g .args .rows .now) (b .loop .t) (g .pre .3) (g .pre .4) (search needs) in search needs
+
+slice-read-old : tie.Need-slice-read-old Inv-loop μ-loop
+slice-read-old c =
+    let b = c .before .before .before .before in
+    let g = b .before .before in
+    let f = row-low _ (g .args .rows .now) (b .loop .t) (g .pre .3) (g .pre .4) (search needs) in search needs
+
+sub-x : tie.Need-sub-x Inv-loop μ-loop
+sub-x c =
+    let b = c .before .before .before .before .before in
+    let g = b .before .before in
+    let f = row-low _ (g .args .rows .now) (b .loop .t) (g .pre .3) (g .pre .4) (search needs) in search needs
+
+mul-x : tie.Need-mul-x Inv-loop μ-loop
+mul-x c =
+    let b = c .before .before .before .before .before in
+    let g = b .before .before in
+    let f = row-low _ (g .args .rows .now) (b .loop .t) (g .pre .3) (g .pre .4) (search needs) in search needs
+
+slice-write-x : tie.Need-slice-write-x Inv-loop μ-loop
+slice-write-x c =
+    let b = c .before .before .before .before .before in
+    let g = b .before .before in
+    let f = row-low _ (g .args .rows .now) (b .loop .t) (g .pre .3) (g .pre .4) (search needs) in search needs
+
+add-t : tie.Need-add-t Inv-loop μ-loop
+add-t c = search needs
+
+loop-less : tie.Need-loop-less Inv-loop μ-loop
+loop-less c = search needs
+
+loop-again : tie.Need-loop-again Inv-loop μ-loop
+unfolding ofBits
+loop-again c =
+    let b = c .before .before .before .before .before .before in
+    let g = b .before .before in
+    let rows = g .args .rows .now in
+    let l : b .loop .t < length rows = search needs in (
+      search needs,
+      simp length-set (b .loop .inv .1),
+      b .loop .inv .2,
+      λ f m e v.
+          let h = b .loop .inv .3 f m e v in
+          rewriting-turn _ _ rows _ _ _ _ (b .loop .t) h (g .pre .3) (g .pre .4) l _ _
+          (followed-read f m rows _ _ _ _ (g .args .k) (b .loop .t) v l (b .loop .inv .2 ∙ ap (λ (zs : List Float). getD zs (g .args .k - 1) nan) e ∙ row-place f _ (g .args .k) (g .pre .1) (g .pre .2))
+          (rewriting-reads _ _ rows _ _ _ _ (b .loop .t) h (g .pre .3) (g .pre .4) l)
+          (⊎-elim (λ x. x .1 ∙ follows-not _ _ _ (x .0 .taken)) (λ x. x .1 ∙ follows _ _ _ (x .0 .left)) (c .before .if1 .came)))
+          (⊎-elim (λ x. x .1 ∙ flag-set _ _ (x .0 .taken)) (λ x. x .1 ∙ flag-left _ _ (x .0 .left)) (c .if2 .came)),
+    )
+
+same-length : tie.Need-same-length Inv-loop μ-loop
+same-length c = search needs
+
+returns : tie.Need-returns Inv-loop μ-loop
+returns c = let b = c .before in λ f m e v. rewriting-end _ _ (b .before .before .args .rows .now) _ _ _ _ (b .loop .t) (b .loop .inv .3 f m e v) (search needs)
+
+pub reduce-right-spec : {M : Type 1} → statement M
+reduce-right-spec =
+    tie.close
+    (tie.spec
+    Inv-loop
+    μ-loop
+    sub-top
+    mul-top
+    slice-read-top
+    loop-holds
+    mul-i
+    shared-slice-read-i
+    mul-m
+    shared-slice-read-m
+    sub-old
+    mul-old
+    slice-read-old
+    sub-x
+    mul-x
+    slice-write-x
+    add-t
+    loop-less
+    loop-again
+    same-length
+    returns)

@@ -1,0 +1,2 @@
+-- Column k of a step, with the right side and the diagonal.
+pub mod Column

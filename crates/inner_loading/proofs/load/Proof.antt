@@ -1,0 +1,185 @@
+-- `inner_loading::load` meets its contract: the rows before i + 1 are loaded.
+use mathlib.Core.List.{List, []}
+use mathlib.Core.Path.{_≡_, refl, sym, _∙_}
+use Prim.Native.Nat.{_≤_, _<_, _-_, _+_, _*_, _^_}
+use native.Mathlib.Omega.{arith}
+use lib.Ieee.{Float}
+use lib.ListN.{length, getD}
+use borrow.Author.Needs.{needs}
+use Rattle.inner_slots.specs.Handing.{LoadAsks}
+use Rattle.inner_loading.specs.Rows.{Loaded}
+use Rattle.inner_loading.proofs.Whole.{target, line-lies, line-asks, line-leaves, all-start, all-end}
+use Rattle.inner_loading.proofs.load.Statement.{statement}
+use Rattle.inner_loading.proofs.load.Tie as tie
+
+abbrev Inv-loop : tie.InvT-loop
+Inv-loop n starts columns values right l-subs l-starts l-slots u-subs u-starts u-slots l₀ u₀ d₀ x i₀ l u d i =
+    (i ≤ n) × ((length l ≡ length l₀) × (length u ≡ length u₀) × (length d ≡ length d₀))
+    × (length columns * 8 < 2 ^ 63)
+    × (i < n → (length starts ≡ n + 1) × (getD starts i 0 ≤ getD starts (i + 1) 0) × (getD starts (i + 1) 0 ≤ length columns) × (getD starts (i + 1) 0 ≤ length values))
+    × ((x₀ : List Float) (w : LoadAsks n starts columns values right l-subs l-starts l-slots u-subs u-starts u-slots l₀ u₀ d₀ x₀) → Loaded (w .s) n (target n starts columns values right l-subs l-starts l-slots u-subs u-starts u-slots l₀ u₀ d₀ x₀ w) (i + 1) [] l u d)
+
+abbrev μ-loop : tie.MeasureT-loop
+μ-loop n starts columns values right l-subs l-starts l-slots u-subs u-starts u-slots l₀ u₀ d₀ x i₀ l u d i = n - i
+
+copy-requires : tie.Need-copy-requires Inv-loop μ-loop
+copy-requires c κs = let p = c .before .before .before .before .before .before .before .before .before .before .before .before .before .before .before .pre in p .x-size ∙ sym (p .right-size)
+
+loop-holds : tie.Need-loop-holds Inv-loop μ-loop
+loop-holds c =
+    let p = c .before .before .before .before .before .before .before .before .before .before .before .before .before .before .before .before .before .before .pre in (
+      omega arith,
+      (refl, refl, refl),
+      search needs,
+      λ l.
+          line-lies _ _ _ _ _ _ _ _ _ _ _ _ _ _ _ p _ l,
+      λ x w.
+          all-start _ _ _ _ _ _ _ _ _ _ _ _ _ _ _ w,
+    )
+
+mul-from : tie.Need-mul-from Inv-loop μ-loop
+mul-from c =
+    let b = c .before in
+    let f = b .loop .inv .3 (omega arith) in
+    search needs
+
+shared-slice-read-from : tie.Need-shared-slice-read-from Inv-loop μ-loop
+shared-slice-read-from c =
+    let b = c .before .before in
+    let f = b .loop .inv .3 (omega arith) in
+    search needs
+
+add-i : tie.Need-add-i Inv-loop μ-loop
+add-i c =
+    let b = c .before .before in
+    let f = b .loop .inv .3 (omega arith) in
+    search needs
+
+mul-end : tie.Need-mul-end Inv-loop μ-loop
+mul-end c =
+    let b = c .before .before in
+    let f = b .loop .inv .3 (omega arith) in
+    search needs
+
+shared-slice-read-end : tie.Need-shared-slice-read-end Inv-loop μ-loop
+shared-slice-read-end c =
+    let b = c .before .before .before in
+    let f = b .loop .inv .3 (omega arith) in
+    search needs
+
+mul-load-row : tie.Need-mul-load-row Inv-loop μ-loop
+mul-load-row c =
+    let b = c .before .before .before in
+    let f = b .loop .inv .3 (omega arith) in
+    record { fits = omega (arith, f .1, f .2, b .loop .inv .2) }
+
+sub-load-row : tie.Need-sub-load-row Inv-loop μ-loop
+sub-load-row c =
+    let b = c .before .before .before in
+    let f = b .loop .inv .3 (omega arith) in
+    search needs
+
+part-load-row-start : tie.Need-part-load-row-start Inv-loop μ-loop
+part-load-row-start c =
+    let b = c .before .before .before in
+    let f = b .loop .inv .3 (omega arith) in
+    search needs
+
+part-load-row-end : tie.Need-part-load-row-end Inv-loop μ-loop
+part-load-row-end c =
+    let b = c .before .before .before in
+    let f = b .loop .inv .3 (omega arith) in
+    search needs
+
+mul-load-row-2 : tie.Need-mul-load-row-2 Inv-loop μ-loop
+mul-load-row-2 c =
+    let b = c .before .before .before .before in
+    let f = b .loop .inv .3 (omega arith) in
+    record { fits = omega (arith, f .1, f .2, b .loop .inv .2) }
+
+sub-load-row-2 : tie.Need-sub-load-row-2 Inv-loop μ-loop
+sub-load-row-2 c =
+    let b = c .before .before .before .before in
+    let f = b .loop .inv .3 (omega arith) in
+    search needs
+
+part-load-row-start-2 : tie.Need-part-load-row-start-2 Inv-loop μ-loop
+part-load-row-start-2 c =
+    let b = c .before .before .before .before in
+    let f = b .loop .inv .3 (omega arith) in
+    search needs
+
+part-load-row-end-2 : tie.Need-part-load-row-end-2 Inv-loop μ-loop
+part-load-row-end-2 c =
+    let b = c .before .before .before .before in
+    let f = b .loop .inv .3 (omega arith) in
+    search needs
+
+load-row-requires : tie.Need-load-row-requires Inv-loop μ-loop
+load-row-requires c κs =
+    let b = c .before .before .before .before .before .before .before .before in
+    let p = c .before .before .before .before .before .before .before .before .before .before .before .before .before .before .before .before .before .before .before .before .before .before .before .before .before .before .before .pre in
+    line-asks _ _ _ _ _ _ _ _ _ _ _ _ _ _ _ p (b .loop .i) (omega arith) _ _ _ (b .loop .inv .4 _ p)
+
+loop-less : tie.Need-loop-less Inv-loop μ-loop
+loop-less c = let b = c .before .before .before .before .before .before .before .before .before .before .before .before .before .before .before in omega arith
+
+loop-again : tie.Need-loop-again Inv-loop μ-loop
+loop-again c =
+    let b = c .before .before .before .before .before .before .before .before .before .before .before .before .before .before .before in
+    let k = c .before .before .before .before .before .before .load-row .kept in
+    let p = c .before .before .before .before .before .before .before .before .before .before .before .before .before .before .before .before .before .before .before .before .before .before .before .before .before .before .before .before .before .before .before .before .before .before .pre in (
+      omega arith,
+      (k .1 .1 .1 .1 .1 .1 .1 .1 .1 .0 ∙ b .loop .inv .1 .0, k .1 .1 .1 .1 .1 .1 .1 .1 .1 .1 .0 ∙ b .loop .inv .1 .1, k .1 .1 .1 .1 .1 .1 .1 .1 .1 .1 .1 .0 ∙ b .loop .inv .1 .2),
+      b .loop .inv .2,
+      λ l. line-lies _ _ _ _ _ _ _ _ _ _ _ _ _ _ _ p _ l,
+      λ x w.
+          line-leaves _ _ _ _ _ _ _ _ _ _ _ _ _ _ _ w (b .loop .i) (omega arith) _ _ _ _ _ _ (b .loop .inv .4 x w) (c .before .before .before .before .before .before .load-row .ensures),
+    )
+
+same-length : tie.Need-same-length Inv-loop μ-loop
+same-length c = c .before .loop .inv .1 .0
+
+same-length-2 : tie.Need-same-length-2 Inv-loop μ-loop
+same-length-2 c = c .before .loop .inv .1 .1
+
+same-length-3 : tie.Need-same-length-3 Inv-loop μ-loop
+same-length-3 c = c .before .loop .inv .1 .2
+
+same-length-4 : tie.Need-same-length-4 Inv-loop μ-loop
+same-length-4 c = c .before .before .before .before .copy .kept .0
+
+returns : tie.Need-returns Inv-loop μ-loop
+returns c = λ w.
+    let b = c .before in
+    all-end _ _ _ _ _ _ _ _ _ _ _ _ _ _ _ w (b .loop .i) _ _ _ _ (omega arith) (b .loop .inv .0) (b .loop .inv .4 _ w) (c .before .before .before .before .copy .ensures)
+
+pub load-spec : {M : Type 1} → statement M
+load-spec =
+    tie.close
+    (tie.spec
+    Inv-loop
+    μ-loop
+    copy-requires
+    loop-holds
+    mul-from
+    shared-slice-read-from
+    add-i
+    mul-end
+    shared-slice-read-end
+    mul-load-row
+    sub-load-row
+    part-load-row-start
+    part-load-row-end
+    mul-load-row-2
+    sub-load-row-2
+    part-load-row-start-2
+    part-load-row-end-2
+    load-row-requires
+    loop-less
+    loop-again
+    same-length
+    same-length-2
+    same-length-3
+    same-length-4
+    returns)

@@ -1,0 +1,3 @@
+-- What loading takes for granted and leaves, row by row.
+pub mod Rows
+pub mod Sizes

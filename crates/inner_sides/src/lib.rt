@@ -1,0 +1,69 @@
+// A side's part of a step of the elimination: off every list of the side that the step reaches, a factor times the numbers of list k. Rows
+// (U) and columns (L) are one function, since the order of a product does not show.
+ghost use mathlib.Core.Path.{_≡_};
+ghost use Prim.Native.Nat.{_≤_, _<_};
+ghost use lib.ListN.{length, getD};
+ghost use Rattle.inner_slots.specs.Handing.{Clear};
+ghost use Rattle.inner_sides.specs.Stretches.{UpTo};
+ghost use Rattle.inner_sides.specs.Side.{SideAsks, SideLeaves};
+
+mod crossing;
+mod stretch;
+mod work;
+
+// The first place from s on whose member is above i, the list's length where there is none.
+pub fn first_above(list: &[usize], s: usize, i: usize) -> usize
+    requires { ⌜ (s ≤ length (now list)) × UpTo i s (now list) ⌝ }
+    ensures { λ r. ⌜ (r ≤ length (now (list .entry))) × UpTo i r (now (list .entry)) × (r < length (now (list .entry)) → i < getD (now (list .entry)) r 0) ⌝ }
+{
+    let mut q = s;
+    while q < list.len() {
+        if i < list[q] {
+            return q;
+        }
+        q += 1;
+    }
+    q
+}
+
+// One side of step k: `heads` are the lists reached, `factors` their factors; `copy` takes list k's numbers, `dense` the same by subscript,
+// and is clear again afterwards. Returns the step's flag.
+pub fn reduce_side(
+    y: &mut [f64],
+    subs: &[usize],
+    starts: &[usize],
+    slots: &[usize],
+    heads: &[usize],
+    factors: &[f64],
+    copy: &mut [f64],
+    dense: &mut [f64],
+    k: usize,
+    flag: usize,
+) -> usize
+    requires { ⌜ SideAsks (now y) (now subs) (now starts) (now slots) (now heads) (now factors) (now copy) (now dense) k × Clear (now dense) ⌝ }
+    ensures { λ r. ⌜ Clear (now (dense .exit)) × ((w : SideAsks (now (y .entry)) (now (subs .entry)) (now (starts .entry)) (now (slots .entry)) (now (heads .entry)) (now (factors .entry)) (now (copy .entry)) (now (dense .entry)) k) → SideLeaves _ _ _ _ _ _ _ _ _ flag (now (y .exit)) r w) ⌝ }
+{
+    let a = slots[k - 1];
+    let e = slots[k];
+    let c = e - a;
+    let b = starts[k - 1];
+    let f = b + c;
+    let own = &subs[b..f];
+    work::copy_in(copy, &y[a..e]);
+    work::spread(dense, own, &copy[0..c]);
+    let bad = crossing::reduce_lists(
+        y,
+        subs,
+        starts,
+        slots,
+        heads,
+        factors,
+        own,
+        &copy[0..c],
+        dense,
+        b,
+        flag,
+    );
+    work::wipe(dense, own);
+    bad
+}

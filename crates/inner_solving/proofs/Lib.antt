@@ -1,0 +1,3 @@
+-- Laws of back substitution.
+pub mod Rows
+pub mod Solving

@@ -1,0 +1,2 @@
+-- What back substitution does to one row.
+pub mod Rows
