@@ -19,6 +19,7 @@ PARTS = {
     "planning": ["inner_stores", "inner_gathering", "inner_sharing", "inner_step", "inner_planning", "inner_verifying"],
     "elimination": ["inner_slots", "inner_exchange", "inner_sides", "inner_column", "inner_steps", "inner_loading", "inner_solving",
                     "inner_running", "inner_answering"],
+    "job": ["inner_printing", "inner_reading", "inner_lending"],
 }
 
 

@@ -1,0 +1,139 @@
+-- `run_by_list` meets its contract.
+use native.Mathlib.Omega.{arith}
+use Rattle.inner_lending.proofs.Running.{job-ran}
+use borrow.Author.Needs.{needs}
+use Rattle.inner_lending.proofs.run_by_list.Statement.{statement}
+use Rattle.inner_lending.proofs.run_by_list.Tie as tie
+
+add-more : tie.Need-add-more
+add-more c = search needs
+
+sub-run-listed : tie.Need-sub-run-listed
+sub-run-listed c = omega arith
+
+part-row-heads-start : tie.Need-part-row-heads-start
+part-row-heads-start c = omega arith
+
+part-row-heads-end : tie.Need-part-row-heads-end
+part-row-heads-end c = omega (arith, c .before .before .before .before .before .before .before .before .before .before .before .before .before .before .before .before .before .before .before .before .before .pre .0)
+
+sub-run-listed-2 : tie.Need-sub-run-listed-2
+sub-run-listed-2 c = omega arith
+
+part-row-links-start : tie.Need-part-row-links-start
+part-row-links-start c = omega arith
+
+part-row-links-end : tie.Need-part-row-links-end
+part-row-links-end c = search needs
+
+sub-run-listed-3 : tie.Need-sub-run-listed-3
+sub-run-listed-3 c = omega arith
+
+part-set-heads-start : tie.Need-part-set-heads-start
+part-set-heads-start c = omega arith
+
+part-set-heads-end : tie.Need-part-set-heads-end
+part-set-heads-end c = search needs
+
+sub-run-listed-4 : tie.Need-sub-run-listed-4
+sub-run-listed-4 c = omega arith
+
+part-set-links-start : tie.Need-part-set-links-start
+part-set-links-start c = omega arith
+
+part-set-links-end : tie.Need-part-set-links-end
+part-set-links-end c = search needs
+
+sub-run-listed-5 : tie.Need-sub-run-listed-5
+sub-run-listed-5 c = omega arith
+
+part-list-start : tie.Need-part-list-start
+part-list-start c = omega arith
+
+part-list-end : tie.Need-part-list-end
+part-list-end c = search needs
+
+sub-run-listed-6 : tie.Need-sub-run-listed-6
+sub-run-listed-6 c = omega arith
+
+part-spare-start : tie.Need-part-spare-start
+part-spare-start c = omega arith
+
+part-spare-end : tie.Need-part-spare-end
+part-spare-end c = search needs
+
+sub-run-listed-7 : tie.Need-sub-run-listed-7
+sub-run-listed-7 c = omega arith
+
+part-copy-start : tie.Need-part-copy-start
+part-copy-start c = omega arith
+
+part-copy-end : tie.Need-part-copy-end
+part-copy-end c = search needs
+
+sub-run-listed-8 : tie.Need-sub-run-listed-8
+sub-run-listed-8 c = omega arith
+
+part-dense-start : tie.Need-part-dense-start
+part-dense-start c = omega arith
+
+part-dense-end : tie.Need-part-dense-end
+part-dense-end c = omega (arith, c .before .before .before .before .before .before .before .before .before .before .before .before .before .before .before .before .before .before .before .before .before .before .before .before .before .before .before .before .pre .0)
+
+run-listed-requires : tie.Need-run-listed-requires
+run-listed-requires c κs = search needs
+
+same-length : tie.Need-same-length
+same-length c = c .before .before .before .before .before .before .before .before .before .before .before .before .before .before .before .before .before .before .run-listed .kept .1 .1 .1 .1 .1 .1 .1 .1 .1 .1 .1 .1 .1 .1 .1 .0
+
+same-length-2 : tie.Need-same-length-2
+same-length-2 c = c .before .before .before .before .before .before .before .before .before .before .before .before .before .before .before .before .before .before .run-listed .kept .1 .1 .1 .1 .1 .1 .1 .1 .1 .1 .1 .1 .1 .1 .1 .1 .0
+
+same-length-3 : tie.Need-same-length-3
+same-length-3 c = c .before .before .before .before .before .before .before .before .before .before .before .before .before .before .before .before .before .before .run-listed .kept .1 .1 .1 .1 .1 .1 .1 .1 .1 .1 .1 .1 .1 .1 .1 .1 .1 .0
+
+same-length-4 : tie.Need-same-length-4
+same-length-4 c = c .before .before .before .before .before .before .before .before .before .before .before .before .before .before .before .before .before .before .run-listed .kept .1 .1 .1 .1 .1 .1 .1 .1 .1 .1 .1 .1 .1 .1 .1 .1 .1 .1 .0
+
+same-length-5 : tie.Need-same-length-5
+same-length-5 c = c .before .before .before .before .before .before .before .before .before .before .before .before .before .before .before .before .before .before .run-listed .kept .1 .1 .1 .1 .1 .1 .1 .1 .1 .1 .1 .1 .1 .1 .1 .1 .1 .1 .1 .0
+
+returns : tie.Need-returns
+returns c = job-ran _ _ _ _ _ _ _ _ _ _ _ _ _ _ _ _ _ _ _ (c .before .before .before .before .before .before .before .before .before .before .before .before .before .before .before .before .before .before .before .before .before .before .before .before .before .before .before .before .before .before .before .before .before .before .before .before .before .before .before .before .before .before .before .before .before .before .before .before .pre .0) (c .before .before .before .before .before .before .before .before .before .before .before .before .before .before .before .before .before .before .before .before .before .before .before .before .before .before .before .before .before .before .before .before .before .before .before .before .before .before .before .before .before .before .before .before .before .before .before .before .pre .1) (c .before .before .before .before .before .before .before .before .before .before .before .before .before .before .before .before .before .before .run-listed .ensures)
+
+pub run-by-list-spec : {M : Type 1} → statement M
+run-by-list-spec =
+    tie.close
+    (tie.spec
+    add-more
+    sub-run-listed
+    part-row-heads-start
+    part-row-heads-end
+    sub-run-listed-2
+    part-row-links-start
+    part-row-links-end
+    sub-run-listed-3
+    part-set-heads-start
+    part-set-heads-end
+    sub-run-listed-4
+    part-set-links-start
+    part-set-links-end
+    sub-run-listed-5
+    part-list-start
+    part-list-end
+    sub-run-listed-6
+    part-spare-start
+    part-spare-end
+    sub-run-listed-7
+    part-copy-start
+    part-copy-end
+    sub-run-listed-8
+    part-dense-start
+    part-dense-end
+    run-listed-requires
+    same-length
+    same-length-2
+    same-length-3
+    same-length-4
+    same-length-5
+    returns)

@@ -1,0 +1,2 @@
+-- What a job's plan and run leave.
+pub mod Lending

@@ -1,0 +1,3 @@
+-- What the functions that print leave in the store.
+pub mod Appended
+pub mod Lines

@@ -1,0 +1,89 @@
+-- `read_job` meets its contract.
+use native.Mathlib.Omega.{arith}
+use Rattle.inner_reading.specs.Read.{storesOf, Bounded}
+use Rattle.inner_reading.proofs.Course.{long-refused, refused-whole, read-whole, read-bounded}
+use borrow.Author.Needs.{needs}
+use Rattle.inner_reading.proofs.read_job.Statement.{statement}
+use Rattle.inner_reading.proofs.read_job.Tie as tie
+
+returns : tie.Need-returns
+unfolding Bounded
+returns c =
+    let b = c .before .before .before .before .before .before .before in
+    (long-refused (b .args .job .now) (storesOf (b .args .starts .now) (b .args .columns .now) (b .args .values .now) (b .args .right .now) (b .args .rows .now)) (c .if1 .taken), tt)
+
+read-commands-requires : tie.Need-read-commands-requires
+read-commands-requires c κs = (omega (arith, c .before .before .before .before .before .if1 .left), c .before .before .before .before .before .before .before .before .before .before .before .before .pre)
+
+enum-known-ending : tie.Need-enum-known-ending
+enum-known-ending c = search needs
+
+enum-known-ending-2 : tie.Need-enum-known-ending-2
+enum-known-ending-2 c = search needs
+
+same-length : tie.Need-same-length
+same-length c = c .before .before .before .before .before .before .before .before .before .before .before .before .before .read-commands .kept .1 .0
+
+same-length-2 : tie.Need-same-length-2
+same-length-2 c = c .before .before .before .before .before .before .before .before .before .before .before .before .before .read-commands .kept .1 .1 .0
+
+same-length-3 : tie.Need-same-length-3
+same-length-3 c = c .before .before .before .before .before .before .before .before .before .before .before .before .before .read-commands .kept .1 .1 .1 .0
+
+same-length-4 : tie.Need-same-length-4
+same-length-4 c = c .before .before .before .before .before .before .before .before .before .before .before .before .before .read-commands .kept .1 .1 .1 .1 .0
+
+same-length-5 : tie.Need-same-length-5
+same-length-5 c = c .before .before .before .before .before .before .before .before .before .before .before .before .before .read-commands .kept .1 .1 .1 .1 .1 .0
+
+returns-2 : tie.Need-returns-2
+unfolding Bounded
+returns-2 c =
+    let n = c .before .before .before .before .before .before .before .before .before .before .before .before .before .read-commands in
+    let t = c .before .ending .given in
+    (refused-whole (c .before .before .before .before .before .before .before .before .before .before .before .before .before .before .before .before .before .before .before .before .before .before .before .before .before .before .args .job .now) (storesOf (n .last .1 .0) (n .last .1 .1 .0) (n .last .1 .1 .1 .0) (n .last .1 .1 .1 .1 .0) (n .last .1 .1 .1 .1 .1 .0)) _ (omega (arith, c .before .before .before .before .before .before .before .before .before .before .before .before .before .before .before .before .before .before .before .if1 .left)) (rw (t .1) at (n .ensures .0)), tt)
+
+same-length-6 : tie.Need-same-length-6
+same-length-6 c = c .before .before .before .before .before .before .before .before .before .before .before .before .before .read-commands .kept .1 .0
+
+same-length-7 : tie.Need-same-length-7
+same-length-7 c = c .before .before .before .before .before .before .before .before .before .before .before .before .before .read-commands .kept .1 .1 .0
+
+same-length-8 : tie.Need-same-length-8
+same-length-8 c = c .before .before .before .before .before .before .before .before .before .before .before .before .before .read-commands .kept .1 .1 .1 .0
+
+same-length-9 : tie.Need-same-length-9
+same-length-9 c = c .before .before .before .before .before .before .before .before .before .before .before .before .before .read-commands .kept .1 .1 .1 .1 .0
+
+same-length-10 : tie.Need-same-length-10
+same-length-10 c = c .before .before .before .before .before .before .before .before .before .before .before .before .before .read-commands .kept .1 .1 .1 .1 .1 .0
+
+returns-3 : tie.Need-returns-3
+returns-3 c =
+    let n = c .before .before .before .before .before .before .before .before .before .before .before .before .before .read-commands in
+    let t = c .before .ending2 .given in
+    let e = rw (t .1) at (n .ensures .1) in (
+      read-whole (c .before .before .before .before .before .before .before .before .before .before .before .before .before .before .before .before .before .before .before .before .before .before .before .before .before .before .args .job .now) (storesOf (n .last .1 .0) (n .last .1 .1 .0) (n .last .1 .1 .1 .0) (n .last .1 .1 .1 .1 .0) (n .last .1 .1 .1 .1 .1 .0)) _ (omega (arith, c .before .before .before .before .before .before .before .before .before .before .before .before .before .before .before .before .before .before .before .if1 .left)) e (rw (t .1) at (n .ensures .0)),
+      read-bounded _ _ (omega (arith, c .before .before .before .before .before .before .before .before .before .before .before .before .before .before .before .before .before .before .before .if1 .left)) e,
+    )
+
+pub read-job-spec : {M : Type 1} → statement M
+read-job-spec =
+    tie.close
+    (tie.spec
+    returns
+    read-commands-requires
+    enum-known-ending
+    enum-known-ending-2
+    same-length
+    same-length-2
+    same-length-3
+    same-length-4
+    same-length-5
+    returns-2
+    same-length-6
+    same-length-7
+    same-length-8
+    same-length-9
+    same-length-10
+    returns-3)

@@ -1,0 +1,81 @@
+-- How far reading has come, by the code's numbers and stores, and what each command and the last one make of it.
+use mathlib.Core.Path.{_≡_}
+use mathlib.Core.Bool.{true}
+use mathlib.Core.List.{List}
+use Prim.Native.Nat.{ℕ, suc, _+_, _*_, _≤_, _<_}
+use lib.Ieee.{Float}
+use lib.ListN.{length, take, drop}
+use Rattle.foundation.specs.Answer.{Answer, refused, granted}
+use Rattle.foundation.specs.Job.{Reading, Next, more, over, Job, jobOf, reading, nothingRead}
+use Rattle.inner_reading.specs.Read.{JobStores, storesOf}
+use Rattle.inner_reading.specs.declared.progress.Progress.{Progress}
+use Rattle.inner_reading.specs.declared.progress.Turn.{Turn}
+use Rattle.inner_reading.specs.declared.progress.Turn.the-variants.{More, Refused, Done}
+use Rattle.inner_reading.specs.declared.Ending.{Ending}
+use Rattle.inner_reading.specs.declared.Ending.the-variants as Ending
+
+-- what the numbers keep to in a job of `size` bytes
+pub record Sound (size : ℕ) (p : Progress) : Type 0 where
+  pub here : p .at ≤ size
+  pub small : p .n ≤ 128
+  pub rows-left : p .closed ≤ p .n
+  pub picked : p .chosen ≤ p .n
+  pub bytes-used : 11 * p .entries ≤ p .at
+  pub row-left : p .opened ≡ true → p .closed < p .n
+
+-- a byte is left, and the job is short enough
+pub record Within (size : ℕ) (p : Progress) : Type 0 where
+  pub sound : Sound size p
+  pub byte-left : p .at < size
+  pub short : size ≤ 16384
+
+-- what has been read
+unfoldable pub state : Progress → JobStores → Reading
+state p s =
+    record {
+      n = p .n;
+      open-row = p .opened;
+      starts = take (suc (p .closed)) (s .starts);
+      columns = take (p .entries) (s .columns);
+      values = take (p .entries) (s .values);
+      right = take (p .closed) (s .right);
+      rows = take (p .chosen) (s .rows);
+    }
+
+-- the stores with others for entries, for a row's end, for P
+abbrev pub withEntries : JobStores → List ℕ → List Float → JobStores
+withEntries s columns values = storesOf (s .starts) columns values (s .right) (s .rows)
+
+abbrev pub withEnds : JobStores → List ℕ → List Float → JobStores
+withEnds s starts right = storesOf starts (s .columns) (s .values) right (s .rows)
+
+abbrev pub withRows : JobStores → List ℕ → JobStores
+withRows s rows = storesOf (s .starts) (s .columns) (s .values) (s .right) rows
+
+-- what a command came to, as the definition has it
+unfoldable pub nextOf : Turn → List ℕ → JobStores → Next
+nextOf (More p) job s = more (state p s) (drop (p .at) job)
+nextOf (Refused number) job s = over (refused number 0)
+nextOf (Done p) job s = over (granted (jobOf (state p s)))
+
+-- reading that goes on has taken a byte and keeps to its bounds; when it is done, all rows are closed
+unfoldable pub Onward : ℕ → ℕ → Turn → Type 0
+Onward size at (More p) = (at < p .at) × Sound size p
+Onward size at (Refused number) = Unit
+Onward size at (Done p) = Sound size p × (p .closed ≡ p .n)
+
+-- how the commands ended, as the definition has it
+unfoldable pub answerOf : Ending → JobStores → Answer Job
+answerOf (Ending.Refused number) s = refused number 0
+answerOf (Ending.Read p) s = granted (jobOf (state p s))
+
+unfoldable pub Ended : ℕ → Ending → Type 0
+Ended size (Ending.Refused number) = Unit
+Ended size (Ending.Read p) = Sound size p × (p .closed ≡ p .n)
+
+-- between two commands: reading what is left gives the answer of the whole job. `fuel` turns are enough for it.
+pub record Going (job : List ℕ) (s : JobStores) (p : Progress) : Type 0 where
+  pub fuel : ℕ
+  pub enough : length job < fuel + p .at
+  pub bounds : Sound (length job) p
+  pub same : reading fuel (state p s) (drop (p .at) job) ≡ reading (suc (length job)) nothingRead job

@@ -1,0 +1,5 @@
+-- Laws of the way from a job's bytes to its answer.
+pub mod Filled
+pub mod Planned
+pub mod Ending
+pub mod Texts

@@ -1,0 +1,98 @@
+-- `put_answer` meets its contract.
+use Rattle.inner_reading.specs.Read.{storesOf, Bounded}
+use Rattle.job.proofs.Filled.{arrays-sized}
+use Rattle.job.proofs.Texts.{read-refused, read-granted}
+use borrow.Author.Needs.{needs}
+use Rattle.job.proofs.whole.put_answer.Statement.{statement}
+use Rattle.job.proofs.whole.put_answer.Tie as tie
+
+slice-aggregate-read-job : tie.Need-slice-aggregate-read-job
+slice-aggregate-read-job c = search needs
+
+slice-aggregate-read-job-2 : tie.Need-slice-aggregate-read-job-2
+slice-aggregate-read-job-2 c = search needs
+
+slice-aggregate-read-job-3 : tie.Need-slice-aggregate-read-job-3
+slice-aggregate-read-job-3 c = search needs
+
+slice-aggregate-read-job-4 : tie.Need-slice-aggregate-read-job-4
+slice-aggregate-read-job-4 c = search needs
+
+slice-aggregate-read-job-5 : tie.Need-slice-aggregate-read-job-5
+slice-aggregate-read-job-5 c = search needs
+
+read-job-requires : tie.Need-read-job-requires
+read-job-requires c κs = search needs
+
+enum-known-read : tie.Need-enum-known-read
+enum-known-read c = search needs
+
+put-refused-requires : tie.Need-put-refused-requires
+put-refused-requires c κs = search needs
+
+enum-known-read-2 : tie.Need-enum-known-read-2
+enum-known-read-2 c = search needs
+
+slice-aggregate-put-read : tie.Need-slice-aggregate-put-read
+slice-aggregate-put-read c = search needs
+
+slice-aggregate-put-read-2 : tie.Need-slice-aggregate-put-read-2
+slice-aggregate-put-read-2 c = search needs
+
+slice-aggregate-put-read-3 : tie.Need-slice-aggregate-put-read-3
+slice-aggregate-put-read-3 c = search needs
+
+slice-aggregate-put-read-4 : tie.Need-slice-aggregate-put-read-4
+slice-aggregate-put-read-4 c = search needs
+
+slice-aggregate-put-read-5 : tie.Need-slice-aggregate-put-read-5
+slice-aggregate-put-read-5 c = search needs
+
+put-read-requires : tie.Need-put-read-requires
+unfolding Bounded
+put-read-requires c κs =
+    let n = c .before .before .before .before .before .before .before .before .before .before .before .before .before .before .read-job in (
+      c .before .before .before .before .before .before .before .before .before .before .before .before .before .before .before .before .before .before .before .before .before .before .pre,
+      rw (c .before .before .before .before .before .before .before .read2 .given .1) at (n .ensures .1),
+      arrays-sized (storesOf (n .last .1 .0) (n .last .1 .1 .0) (n .last .1 .1 .1 .0) (n .last .1 .1 .1 .1 .0) (n .last .1 .1 .1 .1 .1 .0)) (n .kept .1 .0) (n .kept .1 .1 .0) (n .kept .1 .1 .1 .0) (n .kept .1 .1 .1 .1 .0) (n .kept .1 .1 .1 .1 .1 .0),
+    )
+
+same-length : tie.Need-same-length
+same-length c = c .before .before .put-refused .kept .0
+
+returns : tie.Need-returns
+returns c =
+    let n = c .before .before .before .before .before .before .before .before .before .before .before .before .read-job in
+    rw (read-refused (c .before .before .before .before .before .before .before .before .before .before .before .before .before .before .before .before .before .before .before .before .args .job .now) (storesOf (n .last .1 .0) (n .last .1 .1 .0) (n .last .1 .1 .1 .0) (n .last .1 .1 .1 .1 .0) (n .last .1 .1 .1 .1 .1 .0)) _ _ (n .ensures .0) (c .before .before .before .before .before .read .given .1)) at (c .before .before .put-refused .ensures)
+
+same-length-2 : tie.Need-same-length-2
+same-length-2 c = c .before .before .put-read .kept .0
+
+returns-2 : tie.Need-returns-2
+returns-2 c =
+    let n = c .before .before .before .before .before .before .before .before .before .before .before .before .before .before .before .before .before .read-job in
+    rw (read-granted (c .before .before .before .before .before .before .before .before .before .before .before .before .before .before .before .before .before .before .before .before .before .before .before .before .before .args .job .now) (storesOf (n .last .1 .0) (n .last .1 .1 .0) (n .last .1 .1 .1 .0) (n .last .1 .1 .1 .1 .0) (n .last .1 .1 .1 .1 .1 .0)) _ _ (n .ensures .0) (c .before .before .before .before .before .before .before .before .before .before .read2 .given .1)) at (c .before .before .put-read .ensures)
+
+pub put-answer-spec : {M : Type 1} → statement M
+put-answer-spec =
+    tie.close
+    (tie.spec
+    slice-aggregate-read-job
+    slice-aggregate-read-job-2
+    slice-aggregate-read-job-3
+    slice-aggregate-read-job-4
+    slice-aggregate-read-job-5
+    read-job-requires
+    enum-known-read
+    put-refused-requires
+    enum-known-read-2
+    slice-aggregate-put-read
+    slice-aggregate-put-read-2
+    slice-aggregate-put-read-3
+    slice-aggregate-put-read-4
+    slice-aggregate-put-read-5
+    put-read-requires
+    same-length
+    returns
+    same-length-2
+    returns-2)

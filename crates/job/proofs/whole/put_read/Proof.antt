@@ -1,0 +1,89 @@
+-- `put_read` meets its contract.
+use Rattle.inner_reading.specs.Read.{storesOf}
+use Rattle.job.proofs.Texts.{parts-are}
+use borrow.Author.Needs.{needs}
+use Rattle.job.proofs.whole.put_read.Statement.{statement}
+use Rattle.job.proofs.whole.put_read.Tie as tie
+
+add-more : tie.Need-add-more
+add-more c = search needs
+
+sub-put-plan : tie.Need-sub-put-plan
+sub-put-plan c = search needs
+
+part-put-plan-start : tie.Need-part-put-plan-start
+part-put-plan-start c = search needs
+
+part-put-plan-end : tie.Need-part-put-plan-end
+part-put-plan-end c = search needs
+
+sub-put-plan-2 : tie.Need-sub-put-plan-2
+sub-put-plan-2 c = search needs
+
+part-put-plan-start-2 : tie.Need-part-put-plan-start-2
+part-put-plan-start-2 c = search needs
+
+part-put-plan-end-2 : tie.Need-part-put-plan-end-2
+part-put-plan-end-2 c = search needs
+
+sub-put-plan-3 : tie.Need-sub-put-plan-3
+sub-put-plan-3 c = search needs
+
+part-put-plan-start-3 : tie.Need-part-put-plan-start-3
+part-put-plan-start-3 c = search needs
+
+part-put-plan-end-3 : tie.Need-part-put-plan-end-3
+part-put-plan-end-3 c = search needs
+
+sub-put-plan-4 : tie.Need-sub-put-plan-4
+sub-put-plan-4 c = search needs
+
+part-put-plan-start-4 : tie.Need-part-put-plan-start-4
+part-put-plan-start-4 c = search needs
+
+part-put-plan-end-4 : tie.Need-part-put-plan-end-4
+part-put-plan-end-4 c = search needs
+
+sub-put-plan-5 : tie.Need-sub-put-plan-5
+sub-put-plan-5 c = search needs
+
+part-put-plan-start-5 : tie.Need-part-put-plan-start-5
+part-put-plan-start-5 c = search needs
+
+part-put-plan-end-5 : tie.Need-part-put-plan-end-5
+part-put-plan-end-5 c = search needs
+
+put-plan-requires : tie.Need-put-plan-requires
+put-plan-requires c κs = search needs
+
+same-length : tie.Need-same-length
+same-length c = search needs
+
+returns : tie.Need-returns
+returns c =
+    let a = c .before .before .before .before .before .before .before .before .before .before .before .before .before .before .before .args in
+    rw (parts-are (a .z) (storesOf (a .starts .now) (a .columns .now) (a .values .now) (a .right .now) (a .rows .now))) at (c .before .before .put-plan .ensures)
+
+pub put-read-spec : {M : Type 1} → statement M
+put-read-spec =
+    tie.close
+    (tie.spec
+    add-more
+    sub-put-plan
+    part-put-plan-start
+    part-put-plan-end
+    sub-put-plan-2
+    part-put-plan-start-2
+    part-put-plan-end-2
+    sub-put-plan-3
+    part-put-plan-start-3
+    part-put-plan-end-3
+    sub-put-plan-4
+    part-put-plan-start-4
+    part-put-plan-end-4
+    sub-put-plan-5
+    part-put-plan-start-5
+    part-put-plan-end-5
+    put-plan-requires
+    same-length
+    returns)

@@ -1,0 +1,2 @@
+-- What the steps from bytes to bytes hand on.
+pub mod Answering

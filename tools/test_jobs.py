@@ -1,0 +1,302 @@
+#!/usr/bin/env python3
+"""Tests of tools/jobs.py.   Run: python3 tools/test_jobs.py"""
+import contextlib
+import io
+import os
+import random
+import struct
+import subprocess
+import sys
+import tempfile
+import unittest
+
+import job_answer
+import job_bytes
+import job_cases
+import job_text
+import jobs
+import matrix_market
+from job_bytes import Fields, Refused, Row, bits_of
+
+HERE = os.path.dirname(os.path.abspath(__file__))
+EXAMPLES = os.path.join(HERE, "..", "examples")
+FOUR = "fields 4\nrow 1 1:2 3:1 = 3\nrow 2 2:1 4:1 = 2\nrow 3 1:4 3:4 = 8\nrow 4 2:2 3:1 4:4 = 7\n"
+LISTING = ("plan 4 9 2 2 3 4 31\nrows 3 4 3 4\nx 1 3FF0000000000000\nx 2 3FF0000000000000\n"
+           "x 3 3FF0000000000000\nx 4 3FF0000000000000\nupdates 3\n")
+
+
+def contents(name):
+    with open(name, "rb") as file:
+        return file.read()
+
+
+def four_job():
+    return job_bytes.write(job_text.parse(FOUR))
+
+
+class Numbers(unittest.TestCase):
+    def test_read(self):
+        for text, x in (("2", 2.0), ("-2.5", -2.5), ("+.5", 0.5), ("1.", 1.0), ("1e3", 1e3), ("1E-3", 1e-3), ("-0", -0.0), ("0x1.8p+1", 3.0),
+                        ("-0X1P-1074", -5e-324), ("0x.8", 0.5), ("0x10", 16.0), ("inf", float("inf")), ("0.1", 0.1), ("1e-400", 0.0)):
+            self.assertEqual(job_bytes.bits_of_text(text), bits_of(x), text)
+        self.assertEqual(job_bytes.bits_of_text("@7FF0000000000001"), 0x7FF0000000000001)
+
+    def test_refused(self):
+        for text in ("", "x", "1,5", "1_0", "0x", "0x1p", "1e", "--1", "infinity", "NaN", "@7FF", "1e999", "-0x1p5000", "٣", "1 2"):
+            with self.assertRaises(ValueError, msg=text):
+                job_bytes.bits_of_text(text)
+
+    def test_written_numbers_read_back(self):
+        rng = random.Random(1)
+        for bits in [0, 1 << 63, 1, 0x7FF0000000000000, 0xFFF0000000000000, 0x7FF8000000000000, 0x7FF0000000000001] + [rng.getrandbits(64) for _ in range(2000)]:
+            for as_hex in (False, True):
+                self.assertEqual(job_bytes.bits_of_text(job_bytes.text_of_bits(bits, as_hex)), bits)
+
+
+class Text(unittest.TestCase):
+    def test_examples_agree(self):
+        text = contents(os.path.join(EXAMPLES, "four_fields.txt")).decode()
+        self.assertEqual(job_bytes.write(job_text.parse(text)), contents(os.path.join(EXAMPLES, "four_fields.job")))
+        self.assertEqual(four_job(), contents(os.path.join(EXAMPLES, "four_fields.job")))
+
+    def test_bytes_of_document_01(self):
+        job = four_job()
+        self.assertEqual(len(job), 151)
+        self.assertEqual(job[:17], bytes.fromhex("4E0400 520100 4501000000000000000040"))
+        self.assertEqual(job[-10:], b"B" + struct.pack("<d", 7.0) + b"Z")
+
+    def test_layout_is_free(self):
+        broken = "# a comment\n\nfields\n4\nrow 1\n1:0x1p1 # first\n3:1.0\n=\n3\nrow 2 2:1 4:1=2 row 3 1:4 3:4 =8\nrow 4 2:2 3:1 4:4 = 7"
+        self.assertEqual(job_text.parse(broken), job_text.parse(FOUR))
+
+    def test_round_trips(self):
+        rng = random.Random(2)
+        for _ in range(200):
+            n = rng.randint(1, 9)
+            rows = [Row([(rng.randint(0, 65535) if rng.random() < 0.1 else j, rng.getrandbits(64)) for j in range(1, n + 1) if j == i or rng.random() < 0.4],
+                        rng.getrandbits(64)) for i in range(1, n + 1)]
+            fields = Fields(n, rows, [rng.randint(0, n + 1) for _ in range(n)] if rng.random() < 0.5 else [])
+            job = job_bytes.write(fields)
+            self.assertEqual(job_bytes.read(job), fields)
+            for as_hex in (False, True):
+                self.assertEqual(job_bytes.write(job_text.parse(job_text.show(fields, as_hex), unchecked=True)), job)
+
+    def test_bad_lines(self):
+        big = "fields 128\n" + "".join(f"row {i}\n" + " ".join(f"{j}:1" for j in range(1, 129)) + " = 1\n" for i in range(1, 129))
+        for text, line, part in (
+                ("", 1, "ends where 'fields'"), ("# nothing\n\n", 2, "ends where 'fields'"), ("row 1\n", 1, "'row' stands where 'fields'"),
+                ("fields\n", 1, "number of fields"), ("fields x\n", 1, "'x' stands where the number of fields"), ("fields -1\n", 1, "'-1'"),
+                ("fields 0\n", 1, "0 fields"), ("\nfields 129\n", 2, "1 to 128"), ("fields 70000\n", 1, "too large"),
+                ("fields 1\nrow 2 1:1 = 1\n", 2, "row 2 stands where row 1"), ("fields 2\nrow 1 1:1 = 1\n", 2, "ends where 'row'"),
+                ("fields 2\nrow 1 1:1 = 1\nrow 1 2:1 = 1\n", 3, "row 1 stands where row 2"), ("fields 1\nrow 1 1:1\n", 2, "ends where '='"),
+                ("fields 1\nrow 1 1:1 =\n", 2, "right side of row 1"), ("fields 1\nrow 1 1 = 2\n", 2, "column:value"),
+                ("fields 1\nrow 1\n1:z = 2\n", 3, "'z' is no number"), ("fields 1\nrow 1 a:1 = 2\n", 2, "a column"),
+                ("fields 1\nrow 1 1:1 = 1e999\n", 2, "beyond the largest"), ("fields 1\nrow 1 1:1 = 1\nrow 2\n", 3, "follows the last row"),
+                (FOUR + "pivots 1 2 x\n", 6, "a pivot row"), (FOUR + "\npivots 1 2\n", 7, "2 pivot rows"), (FOUR + "pivots\n", 6, "0 pivot rows"),
+                (FOUR + "pivots 1\n1 3 4\n", 7, "has to be 2 to 4"), (FOUR + "pivots 1 2 3 4 4\n", 6, "step 5"),
+                ("fields 2\nrow 1 0:1 1:1 = 1\n", 2, "refuse it: 3"), ("fields 2\nrow 1 1:1 3:1 = 1\n", 2, "refuse it: 3"),
+                ("fields 2\nrow 1 1:1\n 1:2 = 1\n", 3, "refuse it: 4"), ("fields 2\nrow 1 2:1 1:1 = 1\n", 2, "column 1 follows column 2"),
+                ("fields 2\nrow 1 2:1 = 1\n", 2, "refuse it: 5"), ("fields 1\nrow 1 1:inf = 1\n", 2, "refuse it: 11"),
+                ("fields 1\nrow 1 1:1\n = nan\n", 3, "refuse it: 11"), (big, 257, "refuse it: 18")):
+            with self.assertRaises(job_text.BadText, msg=text[:60]) as caught:
+                job_text.parse(text)
+            self.assertTrue(str(caught.exception).startswith(f"line {line}: "), (text[:60], str(caught.exception)))
+            self.assertIn(part, str(caught.exception))
+
+
+class Market(unittest.TestCase):
+    GENERAL = ("%%MatrixMarket matrix coordinate real general\n% four fields\n4 4 9\n1 1 2\n1 3 1\n2 2 1\n2 4 1\n3 1 4\n3 3 4\n4 2 2\n4 3 1\n4 4 4\n")
+
+    def made(self, matrix, right, pivots=()):
+        return matrix_market.from_market(matrix_market.Market(matrix), matrix_market.right_side(right), list(pivots))
+
+    def test_four_fields(self):
+        for right in ("3 2 8 7", "3\n2 # second\n8\n7\n", "%%MatrixMarket matrix array real general\n4 1\n3\n2\n8\n7\n",
+                      "%%MatrixMarket matrix coordinate integer general\n4 1 4\n4 1 7\n1 1 3\n2 1 2\n3 1 8\n"):
+            fields, added = self.made(self.GENERAL, right)
+            self.assertEqual((job_bytes.write(fields), added), (four_job(), []))
+        self.assertEqual(self.made(self.GENERAL, "3 2 8 7", [1, 2, 4, 4])[0].pivots, [1, 2, 4, 4])
+
+    def test_symmetries_and_arrays(self):
+        symmetric, added = self.made("%%MatrixMarket matrix coordinate real symmetric\n2 2 2\n1 1 5\n2 1 -3\n", "1 2")
+        self.assertEqual(job_text.show(symmetric), "fields 2\nrow 1   1:5  2:-3  = 1\nrow 2   1:-3  2:0  = 2\n")
+        self.assertEqual(added, [2])
+        skew, added = self.made("%%MatrixMarket matrix coordinate real skew-symmetric\n2 2 1\n2 1 3\n", "1 2")
+        self.assertEqual(job_text.show(skew), "fields 2\nrow 1   1:0  2:-3  = 1\nrow 2   1:3  2:0  = 2\n")
+        dense, added = self.made("%%MatrixMarket matrix array real general\n2 2\n1\n0\n-0\n4\n", "1 2")
+        self.assertEqual(job_text.show(dense), "fields 2\nrow 1   1:1  2:-0  = 1\nrow 2   2:4  = 2\n")
+        lower, added = self.made("%%MatrixMarket matrix array real symmetric\n2 2\n1\n7\n4\n", "1 2")
+        self.assertEqual(job_text.show(lower), "fields 2\nrow 1   1:1  2:7  = 1\nrow 2   1:7  2:4  = 2\n")
+
+    def test_bad_files(self):
+        head = "%%MatrixMarket matrix coordinate real general\n"
+        for matrix, right, line, part in (
+                ("", "", 1, "empty"), ("1 1\n", "1", 1, "begins with"),
+                ("%%MatrixMarket matrix coordinate complex general\n1 1 1\n", "1", 1, "'complex'"),
+                ("%%MatrixMarket matrix coordinate pattern general\n1 1 1\n", "1", 1, "'pattern'"),
+                ("%%MatrixMarket matrix coordinate real hermitian\n", "1", 1, "'hermitian'"),
+                (head, "1", 1, "before its sizes"), (head + "% c\n1 1\n", "1", 3, "3 sizes"), (head + "1 1 x\n", "1", 2, "'x'"),
+                (head + "1 1 1\n1 1\n", "1", 3, "an entry is"),
+                (head + "2 2 1\n3 1 1\n", "1", 3, "outside 2 by 2"), (head + "1 1 2\n1 1 1\n1 1 2\n", "1", 4, "listed twice"),
+                (head + "1 1 2\n1 1 1\n", "1", 2, "2 entries are announced"),
+                (head + "1 1 1\n1 1 q\n", "1", 3, "no number"), (head + "1 1 1\n1 1 inf\n", "1", 3, "not finite"),
+                (head + "2 1 0\n", "1 2", 2, "square"), (head + "129 129 0\n", "1", 2, "1 to 128"),
+                (head + "1 1 1\n1 1 1\n", "1 2", 2, "right side 2 numbers"),
+                (head + "1 1 1\n1 1 1\n", "1\ny\n", 2, "'y' is no number"), (head + "1 1 1\n1 1 1\n", "\nnan", 2, "finite"),
+                ("%%MatrixMarket matrix array real general\n2 2\n1\n2\n", "1 2", 2, "4 values"),
+                ("%%MatrixMarket matrix coordinate real symmetric\n2 1 0\n", "1", 2, "square"),
+                ("%%MatrixMarket matrix coordinate real skew-symmetric\n1 1 1\n1 1 0\n", "1", 3, "no diagonal"),
+                (head + "1 1 1\n1 1 1\n", "%%MatrixMarket matrix array real general\n1 2\n1\n2\n", 2, "one column")):
+            with self.assertRaises(job_text.BadText, msg=matrix + right) as caught:
+                self.made(matrix, right)
+            self.assertTrue(str(caught.exception).startswith(f"line {line}: "), (matrix, str(caught.exception)))
+            self.assertIn(part, str(caught.exception))
+        for pivots in ([1, 2, 3], [1, 1, 3, 4], [1, 2, 3, 4, 4]):
+            with self.assertRaises(job_text.BadText):
+                self.made(self.GENERAL, "3 2 8 7", pivots)
+
+
+class Answers(unittest.TestCase):
+    def test_listing(self):
+        said, finished = job_answer.explain(LISTING, four_job())
+        self.assertTrue(finished)
+        for part in ("4 fields, 9 entries", "L 2, U 2", "L 3, U 4", "reads 31, updates 3", "pivot rows: 3 4 3 4", "field 4: 1    0x1.0000000000000p+0"):
+            self.assertIn(part, said)
+        self.assertIn("field 1: 0.1 ", job_answer.explain("plan 1 1 0 0 0 0 2\nrows 1\nx 1 3FB999999999999A\nupdates 0\n")[0])
+
+    def test_every_refusal_has_its_sentence(self):
+        self.assertEqual(sorted(job_answer.SENTENCES), list(range(1, 20)))
+        for number in range(1, 20):
+            step = 17 if number in (7, 8, 13, 14) else 0
+            said, finished = job_answer.explain(f"refused {number} {step}\n")
+            self.assertFalse(finished)
+            self.assertTrue(said.startswith(f"refused, number {number}" + (", step 17\n" if step else "\n")), said)
+            self.assertEqual(said.count("\n"), 3 if number in (2, 6, 9, 19) else 2)
+            self.assertEqual("17" in said.splitlines()[1], bool(step))
+            self.assertNotIn("{", said)
+
+    def test_places(self):
+        def job(text):
+            return job_bytes.write(job_text.parse(text, unchecked=True))
+
+        for answer, text, part in (
+                ("refused 1 0\n", b"N\x81\0", "n is 129"), ("refused 1 0\n", b"N\0\0", "n is 0"),
+                ("refused 3 0\n", job("fields 2 row 1 1:1 5:1 = 1 row 2 2:1 = 1"), "row 1 lists column 5"),
+                ("refused 4 0\n", job("fields 2 row 1 1:1 2:1 = 1 row 2 2:1 2:1 = 1"), "in row 2 column 2 follows column 2"),
+                ("refused 5 0\n", job("fields 2 row 1 1:1 = 1 row 2 1:1 = 1"), "row 2 does not list column 2"),
+                ("refused 11 0\n", job("fields 1 row 1 1:inf = 1"), "row 1, column 1 is inf"),
+                ("refused 11 0\n", job("fields 1 row 1 1:1 = nan"), "right side of row 1 is nan"),
+                ("refused 12 0\n", job(FOUR + "pivots 1 1 3 4"), "row 1 at step 2"),
+                ("refused 13 1\n", job(FOUR + "pivots 2 2 3 4"), "row 2 at step 1"),
+                ("refused 15 0\n", b"X", "byte 0 is 58 (at the beginning), and only N may"),
+                ("refused 15 0\n", four_job()[:37] + b"R\3\0", "names row 3, and row 2"),
+                ("refused 15 0\n", four_job()[:-1] + b"P\1\0Z", "after 1 of 4"), ("refused 16 0\n", b"", "ends after byte 0"),
+                ("refused 16 0\n", four_job()[:-1], "P or Z has to follow"),
+                ("refused 16 0\n", four_job()[:8], "inside the command E of byte 6, in row 1"),
+                ("refused 17 0\n", four_job() + b"ZZ", "the Z of byte 150 ends the job, and 2 more bytes"), ("refused 18 0\n", bytes(16386), "2 more than")):
+            said, _ = job_answer.explain(answer, text)
+            self.assertIn("Where: ", said)
+            self.assertIn(part, said)
+
+    def test_answer_of_another_job(self):
+        for answer in [f"refused {number} 0\n" for number in job_answer.SEEN]:
+            self.assertIn("belongs to another job", job_answer.explain(answer, four_job())[0])
+        for job in (b"", job_cases.four([1, 2, 3, 4]), job_cases.four(right=[job_cases.NAN] * 4)):
+            with self.assertRaises(job_answer.BadAnswer):
+                job_answer.explain(LISTING, job)
+
+    def test_no_whole_answer(self):
+        for text in ("", "refused 20 0\n", "refused 0 0\n", "refused 3\n", "refused 3 0", LISTING[:-1], LISTING + "x", LISTING.replace("x 2", "x 5"),
+                     LISTING.replace("rows 3", "rows"), LISTING.replace("updates 3\n", ""), "plan 1\n", "garbage\n"):
+            with self.assertRaises(job_answer.BadAnswer, msg=text):
+                job_answer.explain(text)
+        for cut in range(len(LISTING)):
+            with self.assertRaises(job_answer.BadAnswer):
+                job_answer.explain(LISTING[:cut])
+
+
+class RecordedJobs(unittest.TestCase):
+    """The recorded jobs, whose answers a dense program of another author gave."""
+
+    def test_all(self):
+        recorded = job_cases.recorded()
+        self.assertGreater(len(recorded), 400)
+        for number, (job, answer) in enumerate(recorded, 1):
+            with self.subTest(job=number):
+                said, finished = job_answer.explain(answer, job)
+                self.assertEqual(finished, answer.startswith("plan "))
+                self.assertNotIn(job_answer.OTHER_JOB, said)
+                try:
+                    fields = job_bytes.read(job)
+                except Refused as refusal:
+                    self.assertEqual(answer, f"refused {refusal.number} 0\n")
+                else:
+                    self.assertEqual(job_bytes.write(job_text.parse(job_text.show(fields), unchecked=True)), job)
+
+
+class Commands(unittest.TestCase):
+    def run_words(self, *words, given=b""):
+        out, err = io.TextIOWrapper(io.BytesIO()), io.StringIO()
+        was = sys.stdin
+        sys.stdin = io.TextIOWrapper(io.BytesIO(given))
+        try:
+            with contextlib.redirect_stdout(out), contextlib.redirect_stderr(err):
+                try:
+                    status = jobs.main(list(words))
+                except SystemExit as end:
+                    status = end.code
+        finally:
+            sys.stdin = was
+        out.flush()
+        return status, out.buffer.getvalue(), err.getvalue()
+
+    def test_make_show_explain(self):
+        example = os.path.join(EXAMPLES, "four_fields.")
+        self.assertEqual(self.run_words("make", example + "txt"), (0, contents(example + "job"), ""))
+        self.assertEqual(self.run_words("make", given=FOUR.encode())[1], contents(example + "job"))
+        status, text, _ = self.run_words("show", example + "job")
+        self.assertEqual((status, self.run_words("make", "-", given=text)[1]), (0, contents(example + "job")))
+        self.assertIn(b"1:0x1.0000000000000p+1", self.run_words("show", "--hex", example + "job")[1])
+        status, said, _ = self.run_words("explain", "--job", example + "job", given=LISTING.encode())
+        self.assertEqual((status, said.split(b"\n")[0]), (0, b"finished: 4 fields, 9 entries"))
+
+    def test_files(self):
+        with tempfile.TemporaryDirectory() as folder:
+            def path(name, content=None):
+                if content is not None:
+                    with open(os.path.join(folder, name), "w") as file:
+                        file.write(content)
+                return os.path.join(folder, name)
+
+            matrix, right = path("a.mtx", Market.GENERAL.replace("4 4 4\n", "").replace("4 4 9", "4 4 8")), path("b.txt", "3 2 8 7")
+            status, out, said = self.run_words("make", "--matrix", matrix, "--right", right, "--pivots", "1,2,4,4", "-o", path("job"))
+            self.assertEqual((status, out), (0, b""))
+            self.assertIn("hold 0: 4", said)
+            self.assertIn(b"pivots 1 2 4 4", self.run_words("show", path("job"))[1])
+            self.assertEqual(sorted(os.listdir(folder)), ["a.mtx", "b.txt", "job"])
+            status, out, said = self.run_words("make", path("bad.txt", "fields 1\nrow 1 1:x = 1\n"), "-o", path("never"))
+            self.assertEqual((status, out), (1, b""))
+            self.assertIn("bad.txt: line 2: 'x' is no number", said)
+            self.assertFalse(os.path.exists(path("never")))
+
+    def test_as_a_program(self):
+        done = subprocess.run([sys.executable, os.path.join(HERE, "jobs.py"), "make"], input=FOUR.encode(), capture_output=True)
+        self.assertEqual((done.returncode, done.stdout, done.stderr), (0, four_job(), b""))
+
+    def test_statuses(self):
+        self.assertEqual(self.run_words("explain", given=b"refused 13 2\n")[0], 1)
+        for given in (b"", b"\xff", LISTING[:40].encode()):
+            self.assertEqual(self.run_words("explain", given=given)[0], 2)
+        status, out, said = self.run_words("show", given=b"N\4\0X")
+        self.assertEqual((status, out), (1, b""))
+        self.assertIn("byte 3 is 58", said)
+        self.assertEqual(self.run_words("make", given=b"\xff\xfe")[0], 1)
+        self.assertEqual(self.run_words("make", given=b"fields 1 row 1 2:1 = 1")[0], 1)
+        self.assertEqual(self.run_words("make", "--unchecked", given=b"fields 1 row 1 2:1 = 1")[0], 0)
+        for words in ((), ("make", "--matrix", "a"), ("make", "--right", "b"), ("make", "--pivots", "1"), ("make", "t", "--matrix", "a", "--right", "b"),
+                      ("make", "--matrix", "a", "--right", "b", "--pivots", "x"), ("show", "/no/such/file"), ("made",)):
+            self.assertEqual(self.run_words(*words)[0], 2, words)
+
+
+if __name__ == "__main__":
+    unittest.main()
