@@ -245,6 +245,10 @@ def main():
     parse.add_argument("--wrap", default=os.environ.get("BEND_WRAP", ""))
     parse.add_argument("--list", default=os.path.join(ROOT, "tools", "bends"))
     asked = parse.parse_args()
+    if asked.j < 1:
+        parse.error("-j has to be 1 or more")
+    if not os.path.exists(asked.list):
+        parse.error(f"there is no list {asked.list}")
     changes = read_lists(asked.list)
     wanted = [c for c in changes if not asked.only or any(t in "\n".join((c.path, c.old, c.new)) for t in asked.only)]
     log = os.path.join(ROOT, "target", "bend", "verdicts.txt")

@@ -278,6 +278,8 @@ def add_large(cases, rng):
 
 
 def main():
+    if len(sys.argv) != 2:
+        raise SystemExit(__doc__)
     sys.path.insert(0, sys.argv[1])
     import calls
     import dense
@@ -287,8 +289,6 @@ def main():
     add_random(cases, rng)
     add_large(cases, rng)
     crate = os.path.join(os.path.dirname(os.path.abspath(__file__)), "..", "crates", "elimination_cases")
-    if len(sys.argv) > 2:
-        crate = sys.argv[2]
     with open(os.path.join(crate, "stdin"), "wb") as file:
         file.write(cases.bytes)
     with open(os.path.join(crate, "stdout"), "w", encoding="ascii") as file:

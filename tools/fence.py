@@ -17,9 +17,9 @@ import sys
 # The open crate of each part, and its inner crates.
 PARTS = {
     "planning": ["inner_stores", "inner_gathering", "inner_sharing", "inner_step", "inner_planning", "inner_verifying"],
-    "elimination": ["inner_slots", "inner_exchange", "inner_sides", "inner_column", "inner_steps", "inner_loading", "inner_solving",
-                    "inner_running", "inner_answering"],
-    "job": ["inner_printing", "inner_reading", "inner_lending"],
+    "elimination": ["inner_slots", "inner_choosing", "inner_exchange", "inner_stretches", "inner_sides", "inner_column", "inner_steps", "inner_loading", "inner_solving",
+                    "inner_asking", "inner_judging", "inner_clearing", "inner_running", "inner_answering"],
+    "job": ["inner_printing", "inner_operands", "inner_commands", "inner_standing", "inner_reading", "inner_lending"],
 }
 
 
@@ -93,6 +93,9 @@ def open_breaches(folder, module):
         if public:
             yield from open_breaches(inside, name)
     for names in re.findall(r"\bpub\s+use\s+([^;]+);", text):
+        if "{" in names or "*" in names:
+            yield f"{path}: a pub use of several names at once, which the fence does not read"
+            continue
         parts = [part.strip() for part in names.replace("crate::", "").split("::")]
         if parts[0].startswith("inner_"):
             yield f"{path}: pub use of {'::'.join(parts)} hands an inner crate on"
@@ -114,7 +117,7 @@ def main():
     if breaches:
         sys.exit(1)
     inner = [name for name in crates if name.startswith("inner_")]
-    print(f"fence: {len(inner)} inner crates behind {len(PARTS)} open crate, {len(crates) - len(inner)} other crates")
+    print(f"fence: {len(inner)} inner crates behind {len(PARTS)} open crates, {len(crates) - len(inner)} other crates")
 
 
 if __name__ == "__main__":

@@ -12,7 +12,7 @@ ROOM = 2048
 # What is wrong, for each refusal of document 01; {k} is its step.
 SENTENCES = {
     1: f"The number of fields is 0 or above {MOST_FIELDS} (in a call of the library: above 1,024, or more than 16,384 entries).",
-    2: "The row starts of a pattern do not begin with 0, fall, or do not end with the number of entries.",
+    2: "The row starts of a pattern are not n+1, do not begin with 0, fall, or do not end with the number of entries.",
     3: "A column number is 0 or larger than the number of fields.",
     4: "The columns of a row do not ascend strictly.",
     5: "A row lacks its diagonal place. Where its value is zero it has to be listed all the same.",
@@ -35,6 +35,7 @@ SENTENCES = {
     19: "The tally's sum would pass 4,294,967,295; it keeps its old sum.",
 }
 NOT_OF_JOBS = (2, 6, 9, 19)
+WITH_STEP = (7, 8, 13, 14)      # the others have step 0
 
 
 class BadAnswer(Exception):
@@ -52,18 +53,20 @@ def parse(text):
     """Finished, or the number and step of a refusal."""
     if text == "":
         raise BadAnswer("there is no answer: the program could not read its input or write its output, and says so on standard error")
-    refusal = re.fullmatch(r"refused ([0-9]+) ([0-9]+)\n", text)
+    refusal = re.fullmatch(r"refused ([0-9]{1,20}) ([0-9]{1,20})\n", text)
     if refusal:
         number, step = int(refusal[1]), int(refusal[2])
         if number not in SENTENCES:
             raise BadAnswer(f"{number} is the number of no refusal")
+        if (step != 0) != (number in WITH_STEP):
+            raise BadAnswer(f"refusal {number} does not come with step {step}")
         return number, step
-    whole = re.fullmatch(r"plan((?: [0-9]+){7})\nrows((?: [0-9]+)*)\n((?:x [0-9]+ [0-9A-F]{16}\n)*)updates ([0-9]+)\n", text)
+    whole = re.fullmatch(r"plan((?: [0-9]{1,20}){7})\nrows((?: [0-9]{1,20})*)\n((?:x [0-9]{1,20} [0-9A-F]{16}\n)*)updates ([0-9]{1,20})\n", text)
     if not whole:
         raise BadAnswer("this is not, or not all of, an answer of the program")
     counts, pivots = [int(word) for word in whole[1].split()], [int(word) for word in whole[2].split()]
     lines = [line.split() for line in whole[3].splitlines()]
-    if [int(line[1]) for line in lines] != list(range(1, counts[0] + 1)) or len(pivots) != counts[0]:
+    if counts[0] != len(pivots) or [int(line[1]) for line in lines] != list(range(1, len(pivots) + 1)):
         raise BadAnswer(f"the answer has not {counts[0]} pivot rows and {counts[0]} lines x")
     return Finished(counts, pivots, [int(line[2], 16) for line in lines], int(whole[4]))
 

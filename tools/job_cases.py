@@ -333,6 +333,7 @@ def recorded():
         size = struct.unpack_from("<H", data, at)[0]
         jobs.append(data[at + 2:at + 2 + size])
         at += 2 + size
+    assert len(jobs) == len(parts), (len(jobs), len(parts))
     return [(job_, part.partition("\n")[2].rstrip("\n") + "\n") for job_, part in zip(jobs, parts)]
 
 

@@ -109,6 +109,8 @@ def parse_row(words, i, check):
         column, colon, rest = word.partition(":")
         if not colon:
             raise BadText(line, f"'{word}' stands in row {i} where column:value or '=' has to follow")
+        if not rest:
+            raise BadText(line, f"'{word}' stands in row {i} without its value: column and value are one word, with no blank behind the colon")
         before = entries[-1][0] if entries else 0
         entries.append((whole(line, column, "a column"), value(line, rest)))
         check.entry(line, i, before, *entries[-1])

@@ -14,6 +14,7 @@ Status: 0 done (explain: the run finished), 1 bad text, a bad job or a refusal,
 2 bad usage, a file that cannot be read, or no whole answer.
 """
 import argparse
+import contextlib
 import os
 import sys
 
@@ -32,7 +33,7 @@ def load(name):
 
 def load_text(name):
     try:
-        return load(name).decode("utf-8")
+        return load(name).decode("utf-8-sig")      # some editors put a mark before the text
     except UnicodeDecodeError:
         raise job_text.BadText(1, "this is no text") from None
 
@@ -43,9 +44,19 @@ def save(name, content):
         sys.stdout.buffer.write(content)
         sys.stdout.buffer.flush()
         return
-    with open(name + ".part", "wb") as file:
-        file.write(content)
-    os.replace(name + ".part", name)
+    name = os.path.realpath(name)
+    if os.path.exists(name) and not os.path.isfile(name):      # a device or a pipe is written to, never replaced
+        with open(name, "wb") as file:
+            file.write(content)
+        return
+    try:
+        with open(name + ".part", "wb") as file:
+            file.write(content)
+        os.replace(name + ".part", name)
+    except OSError:
+        with contextlib.suppress(OSError):
+            os.remove(name + ".part")
+        raise
 
 
 class InFile(Exception):
@@ -89,7 +100,11 @@ def explain(words):
 
 
 def rows(text):
-    return [int(word) for word in text.replace(",", " ").split()]
+    """The row list of --pivots."""
+    words = text.replace(",", " ").split()
+    if not words or not all(word.isascii() and word.isdigit() and len(word) <= 5 for word in words):
+        raise argparse.ArgumentTypeError(f"'{text}' is no list of rows")
+    return [int(word) for word in words]
 
 
 def command_line():

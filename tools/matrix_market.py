@@ -68,10 +68,11 @@ class Market:
     def array(self):
         """Column by column; places that hold +0 are left out, for they need none in the pattern."""
         lower, strict = self.symmetry != "general", self.symmetry == "skew-symmetric"
-        order = [(i, j) for j in range(1, self.width + 1) for i in range((j + strict) if lower else 1, self.height + 1)]
         words = [(line, word) for line, row in self.body for word in row]
-        if len(words) != len(order):
-            raise BadText(self.size_line, f"{len(order)} values have to follow, and {len(words)} do")
+        count = self.height * (self.height - 1 if strict else self.height + 1) // 2 if lower else self.height * self.width
+        if len(words) != count:                             # before the places are listed: the sizes may be huge
+            raise BadText(self.size_line, f"{count} values have to follow, and {len(words)} do")
+        order = [(i, j) for j in range(1, self.width + 1) for i in range((j + strict) if lower else 1, self.height + 1)]
         for (line, word), (i, j) in zip(words, order):
             bits = value(line, word)
             if bits != 0:

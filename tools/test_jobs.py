@@ -89,7 +89,7 @@ class Text(unittest.TestCase):
                 ("fields 0\n", 1, "0 fields"), ("\nfields 129\n", 2, "1 to 128"), ("fields 70000\n", 1, "too large"),
                 ("fields 1\nrow 2 1:1 = 1\n", 2, "row 2 stands where row 1"), ("fields 2\nrow 1 1:1 = 1\n", 2, "ends where 'row'"),
                 ("fields 2\nrow 1 1:1 = 1\nrow 1 2:1 = 1\n", 3, "row 1 stands where row 2"), ("fields 1\nrow 1 1:1\n", 2, "ends where '='"),
-                ("fields 1\nrow 1 1:1 =\n", 2, "right side of row 1"), ("fields 1\nrow 1 1 = 2\n", 2, "column:value"),
+                ("fields 1\nrow 1 1:1 =\n", 2, "right side of row 1"), ("fields 1\nrow 1 1 = 2\n", 2, "column:value"), ("fields 1\nrow 1 1: 2 = 2\n", 2, "without its value"),
                 ("fields 1\nrow 1\n1:z = 2\n", 3, "'z' is no number"), ("fields 1\nrow 1 a:1 = 2\n", 2, "a column"),
                 ("fields 1\nrow 1 1:1 = 1e999\n", 2, "beyond the largest"), ("fields 1\nrow 1 1:1 = 1\nrow 2\n", 3, "follows the last row"),
                 (FOUR + "pivots 1 2 x\n", 6, "a pivot row"), (FOUR + "\npivots 1 2\n", 7, "2 pivot rows"), (FOUR + "pivots\n", 6, "0 pivot rows"),
@@ -144,6 +144,7 @@ class Market(unittest.TestCase):
                 (head + "1 1 1\n1 1 1\n", "1 2", 2, "right side 2 numbers"),
                 (head + "1 1 1\n1 1 1\n", "1\ny\n", 2, "'y' is no number"), (head + "1 1 1\n1 1 1\n", "\nnan", 2, "finite"),
                 ("%%MatrixMarket matrix array real general\n2 2\n1\n2\n", "1 2", 2, "4 values"),
+                ("%%MatrixMarket matrix array real general\n65535 65535\n1\n", "1", 2, "4294836225 values"),
                 ("%%MatrixMarket matrix coordinate real symmetric\n2 1 0\n", "1", 2, "square"),
                 ("%%MatrixMarket matrix coordinate real skew-symmetric\n1 1 1\n1 1 0\n", "1", 3, "no diagonal"),
                 (head + "1 1 1\n1 1 1\n", "%%MatrixMarket matrix array real general\n1 2\n1\n2\n", 2, "one column")):
@@ -207,6 +208,7 @@ class Answers(unittest.TestCase):
 
     def test_no_whole_answer(self):
         for text in ("", "refused 20 0\n", "refused 0 0\n", "refused 3\n", "refused 3 0", LISTING[:-1], LISTING + "x", LISTING.replace("x 2", "x 5"),
+                     "refused 3 5\n", "refused 7 0\n", "refused " + "9" * 5000 + " 0\n", LISTING.replace("plan 4", "plan " + "4" * 5000),
                      LISTING.replace("rows 3", "rows"), LISTING.replace("updates 3\n", ""), "plan 1\n", "garbage\n"):
             with self.assertRaises(job_answer.BadAnswer, msg=text):
                 job_answer.explain(text)
@@ -254,6 +256,7 @@ class Commands(unittest.TestCase):
         example = os.path.join(EXAMPLES, "four_fields.")
         self.assertEqual(self.run_words("make", example + "txt"), (0, contents(example + "job"), ""))
         self.assertEqual(self.run_words("make", given=FOUR.encode())[1], contents(example + "job"))
+        self.assertEqual(self.run_words("make", given=FOUR.encode("utf-8-sig"))[1], contents(example + "job"))
         status, text, _ = self.run_words("show", example + "job")
         self.assertEqual((status, self.run_words("make", "-", given=text)[1]), (0, contents(example + "job")))
         self.assertIn(b"1:0x1.0000000000000p+1", self.run_words("show", "--hex", example + "job")[1])
@@ -278,6 +281,15 @@ class Commands(unittest.TestCase):
             self.assertEqual((status, out), (1, b""))
             self.assertIn("bad.txt: line 2: 'x' is no number", said)
             self.assertFalse(os.path.exists(path("never")))
+            os.symlink(path("job"), path("link"))
+            self.assertEqual(self.run_words("make", "-o", path("link"), given=FOUR.encode())[0], 0)
+            self.assertTrue(os.path.islink(path("link")))
+            self.assertEqual(contents(path("job")), four_job())
+            os.mkfifo(path("pipe"))
+            reader = os.open(path("pipe"), os.O_RDONLY | os.O_NONBLOCK)
+            self.assertEqual(self.run_words("make", "-o", path("pipe"), given=FOUR.encode())[0], 0)
+            self.assertEqual(os.read(reader, 1000), four_job())
+            os.close(reader)
 
     def test_as_a_program(self):
         done = subprocess.run([sys.executable, os.path.join(HERE, "jobs.py"), "make"], input=FOUR.encode(), capture_output=True)
@@ -294,7 +306,8 @@ class Commands(unittest.TestCase):
         self.assertEqual(self.run_words("make", given=b"fields 1 row 1 2:1 = 1")[0], 1)
         self.assertEqual(self.run_words("make", "--unchecked", given=b"fields 1 row 1 2:1 = 1")[0], 0)
         for words in ((), ("make", "--matrix", "a"), ("make", "--right", "b"), ("make", "--pivots", "1"), ("make", "t", "--matrix", "a", "--right", "b"),
-                      ("make", "--matrix", "a", "--right", "b", "--pivots", "x"), ("show", "/no/such/file"), ("made",)):
+                      ("make", "--matrix", "a", "--right", "b", "--pivots", "x"), ("make", "--matrix", "a", "--right", "b", "--pivots", "1_0"),
+                      ("make", "--matrix", "a", "--right", "b", "--pivots", ""), ("show", "/no/such/file"), ("made",)):
             self.assertEqual(self.run_words(*words)[0], 2, words)
 
 

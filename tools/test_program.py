@@ -7,7 +7,9 @@ What it prints for the recorded jobs, for jobs that come in pieces, and what it
 does where reading or writing fails (docs/JOB.md).
 """
 import os
+import signal
 import subprocess
+import sys
 import time
 import unittest
 
@@ -69,9 +71,18 @@ class Failures(unittest.TestCase):
             done = shell(line)
             self.assertEqual((done.stdout, done.stderr), (b"", CANNOT_WRITE), line)
 
+    def test_reader_gone(self):
+        process = subprocess.Popen([PROGRAM], stdin=subprocess.PIPE, stdout=subprocess.PIPE, stderr=subprocess.PIPE)
+        process.stdout.close()
+        process.stdin.close()
+        self.assertEqual((process.wait(), process.stderr.read()), (-signal.SIGPIPE, b""))
+        process.stderr.close()
+
     def test_neither(self):
         self.assertEqual(shell('"$0" <&- 2>&-').stdout, b"")
 
 
 if __name__ == "__main__":
+    if not os.path.isfile(PROGRAM):
+        sys.exit(f"test_program: there is no program {PROGRAM}: 'rt check program' builds it")
     unittest.main()

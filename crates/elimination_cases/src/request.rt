@@ -18,30 +18,42 @@ const PLACES: usize = 1_040;
 // What every lent place holds before the call. It is not zero, so that a store which the call left alone shows.
 const BEFORE: usize = 54_321;
 
-// The first `asked` places of a store, or all of a shorter one: `fits` has shown that it is not shorter.
-fn front(store: &[usize], asked: usize) -> &[usize] {
+// A head word.
+pub fn word(head: &[usize; HEAD], at: usize) -> usize {
+    if HEAD <= at {
+        return 0;
+    }
+    head[at]
+}
+
+// The first places of a store, as many as a head word asks for; all where it has fewer.
+pub fn front<'a>(store: &'a [usize], head: &[usize; HEAD], at: usize) -> &'a [usize] {
+    let asked = word(head, at);
     if store.len() < asked {
         return store;
     }
     &store[0..asked]
 }
 
-fn front_numbers(store: &[f64], asked: usize) -> &[f64] {
+pub fn front_numbers<'a>(store: &'a [f64], head: &[usize; HEAD], at: usize) -> &'a [f64] {
+    let asked = word(head, at);
     if store.len() < asked {
         return store;
     }
     &store[0..asked]
 }
 
-// Reads the first `asked` places of a store.
-fn read(store: &mut [usize], asked: usize) -> bool {
+// Reads the first places of a store, as many as a head word asks for.
+fn read(store: &mut [usize], head: &[usize; HEAD], at: usize) -> bool {
+    let asked = word(head, at);
     if store.len() < asked {
         return false;
     }
     words::fill(&mut store[0..asked])
 }
 
-fn read_numbers(store: &mut [f64], asked: usize) -> bool {
+fn read_numbers(store: &mut [f64], head: &[usize; HEAD], at: usize) -> bool {
+    let asked = word(head, at);
     if store.len() < asked {
         return false;
     }
@@ -56,15 +68,15 @@ fn lend_plan(head: &[usize; HEAD], starts: &[usize], columns: &[usize]) -> bool 
     let mut u_subs = [BEFORE; SUBSCRIPTS];
     let mut u_starts = [BEFORE; PLACES];
     let mut u_slots = [BEFORE; PLACES];
-    if !read(&mut l_subs, head[11])
-        || !read(&mut l_starts, head[12])
-        || !read(&mut l_slots, head[13])
+    if !read(&mut l_subs, head, 11)
+        || !read(&mut l_starts, head, 12)
+        || !read(&mut l_slots, head, 13)
     {
         return false;
     }
-    if !read(&mut u_subs, head[14])
-        || !read(&mut u_starts, head[15])
-        || !read(&mut u_slots, head[16])
+    if !read(&mut u_subs, head, 14)
+        || !read(&mut u_starts, head, 15)
+        || !read(&mut u_slots, head, 16)
     {
         return false;
     }
@@ -72,12 +84,12 @@ fn lend_plan(head: &[usize; HEAD], starts: &[usize], columns: &[usize]) -> bool 
         head,
         starts,
         columns,
-        front(&l_subs, head[11]),
-        front(&l_starts, head[12]),
-        front(&l_slots, head[13]),
-        front(&u_subs, head[14]),
-        front(&u_starts, head[15]),
-        front(&u_slots, head[16]),
+        front(&l_subs, head, 11),
+        front(&l_starts, head, 12),
+        front(&l_slots, head, 13),
+        front(&u_subs, head, 14),
+        front(&u_starts, head, 15),
+        front(&u_slots, head, 16),
     )
 }
 
@@ -96,9 +108,9 @@ fn lend_numbers(
     let mut rows = [BEFORE; PLACES];
     let mut values = [1.5; ENTRIES];
     let mut right = [1.5; PLACES];
-    if !read(&mut rows, head[17])
-        || !read_numbers(&mut values, head[18])
-        || !read_numbers(&mut right, head[19])
+    if !read(&mut rows, head, 17)
+        || !read_numbers(&mut values, head, 18)
+        || !read_numbers(&mut right, head, 19)
     {
         return false;
     }
@@ -112,9 +124,9 @@ fn lend_numbers(
         u_subs,
         u_starts,
         u_slots,
-        front(&rows, head[17]),
-        front_numbers(&values, head[18]),
-        front_numbers(&right, head[19]),
+        front(&rows, head, 17),
+        front_numbers(&values, head, 18),
+        front_numbers(&right, head, 19),
     );
     true
 }
@@ -123,10 +135,10 @@ fn lend_numbers(
 fn lend_pattern(head: &[usize; HEAD]) -> bool {
     let mut starts = [BEFORE; PLACES];
     let mut columns = [BEFORE; ENTRIES];
-    if !read(&mut starts, head[2]) || !read(&mut columns, head[3]) {
+    if !read(&mut starts, head, 2) || !read(&mut columns, head, 3) {
         return false;
     }
-    lend_plan(head, front(&starts, head[2]), front(&columns, head[3]))
+    lend_plan(head, front(&starts, head, 2), front(&columns, head, 3))
 }
 
 // Reads and answers one request. It answers whether to go on: not at the end of the input, and not after a bad request.

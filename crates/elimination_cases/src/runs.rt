@@ -1,9 +1,11 @@
 // The calls of one request, and what is shown of them.
+use crate::request;
 use crate::request::HEAD;
 use crate::show;
 use answers::Extent;
 use answers::PlanCounts;
 use answers::RunAnswer;
+use elimination::PivotChoice;
 
 const SLOTS: usize = 66_000;
 
@@ -14,15 +16,18 @@ const BEFORE: usize = 54_321;
 
 const BEFORE_NUMBER: f64 = 1.5;
 
-// The first `asked` places of a store, or all of a shorter one.
-fn front(store: &mut [usize], asked: usize) -> &mut [usize] {
+// The first places of a store, as many as a head word asks for; all where it has fewer. These functions take the head and the word's place, so that the
+// functions below, which lend a dozen stores, have few steps for each: a long function is dear to prove.
+fn front<'a>(store: &'a mut [usize], head: &[usize; HEAD], at: usize) -> &'a mut [usize] {
+    let asked = request::word(head, at);
     if store.len() < asked {
         return store;
     }
     &mut store[0..asked]
 }
 
-fn front_numbers(store: &mut [f64], asked: usize) -> &mut [f64] {
+fn front_numbers<'a>(store: &'a mut [f64], head: &[usize; HEAD], at: usize) -> &'a mut [f64] {
+    let asked = request::word(head, at);
     if store.len() < asked {
         return store;
     }
@@ -40,6 +45,14 @@ fn counts(head: &[usize; HEAD]) -> PlanCounts {
         u_slots: head[9],
         reads: head[10],
     }
+}
+
+// How the pivot rows are chosen.
+fn choice(head: &[usize; HEAD]) -> PivotChoice {
+    if head[20] == 0 {
+        return PivotChoice::Largest;
+    }
+    PivotChoice::Listed
 }
 
 // How far the run is to go.
@@ -69,8 +82,8 @@ fn verify(
     let mut list = [BEFORE; PLACES];
     let mut spare = [BEFORE; PLACES];
     show::verified(planning::verify(
-        head[0],
-        head[1],
+        request::word(head, 0),
+        request::word(head, 1),
         starts,
         columns,
         counts(head),
@@ -80,28 +93,13 @@ fn verify(
         u_subs,
         u_starts,
         u_slots,
-        front(&mut row_heads, head[28]),
-        front(&mut row_links, head[29]),
-        front(&mut set_heads, head[30]),
-        front(&mut set_links, head[31]),
-        front(&mut list, head[32]),
-        front(&mut spare, head[33]),
+        front(&mut row_heads, head, 28),
+        front(&mut row_links, head, 29),
+        front(&mut set_heads, head, 30),
+        front(&mut set_links, head, 31),
+        front(&mut list, head, 32),
+        front(&mut spare, head, 33),
     ));
-}
-
-// The same of a store that is only read.
-fn part(store: &[usize], asked: usize) -> &[usize] {
-    if store.len() < asked {
-        return store;
-    }
-    &store[0..asked]
-}
-
-fn part_numbers(store: &[f64], asked: usize) -> &[f64] {
-    if store.len() < asked {
-        return store;
-    }
-    &store[0..asked]
 }
 
 // The answer and the five result stores.
@@ -115,11 +113,20 @@ fn show_results(
     pivots: &[usize],
 ) {
     show::ran(answer);
-    show::numbers(b"lower", part_numbers(l, head[23]));
-    show::numbers(b"upper", part_numbers(u, head[24]));
-    show::numbers(b"diagonal", part_numbers(diagonal, head[25]));
-    show::numbers(b"solution", part_numbers(solution, head[26]));
-    show::rows(b"pivots", part(pivots, head[27]));
+    show::numbers(b"lower", request::front_numbers(l, head, 23));
+    show::numbers(b"upper", request::front_numbers(u, head, 24));
+    show::numbers(b"diagonal", request::front_numbers(diagonal, head, 25));
+    show::numbers(b"solution", request::front_numbers(solution, head, 26));
+    show::rows(b"pivots", request::front(pivots, head, 27));
+}
+
+// Whether the first places of a store, as many as a head word asks for, are zero.
+fn zero(store: &[usize], head: &[usize; HEAD], at: usize) -> bool {
+    show::is_zero(request::front(store, head, at))
+}
+
+fn plus_zero(store: &[f64], head: &[usize; HEAD], at: usize) -> bool {
+    show::is_plus_zero(request::front_numbers(store, head, at))
 }
 
 // Whether the eight work stores are zero throughout.
@@ -134,86 +141,15 @@ fn show_work(
     copy: &[f64],
     dense: &[f64],
 ) {
-    let rows = show::is_zero(part(row_heads, head[28])) && show::is_zero(part(row_links, head[29]));
-    let sets = show::is_zero(part(set_heads, head[30])) && show::is_zero(part(set_links, head[31]));
-    let lists = show::is_zero(part(list, head[32])) && show::is_zero(part(spare, head[33]));
-    let floats = show::is_plus_zero(part_numbers(copy, head[34]))
-        && show::is_plus_zero(part_numbers(dense, head[35]));
-    show::work(rows && sets && lists && floats);
+    let rows = zero(row_heads, head, 28) & zero(row_links, head, 29);
+    let sets = zero(set_heads, head, 30) & zero(set_links, head, 31);
+    let lists = zero(list, head, 32) & zero(spare, head, 33);
+    let floats = plus_zero(copy, head, 34) & plus_zero(dense, head, 35);
+    show::work(rows & sets & lists & floats);
 }
 
-// A run by the largest entry, in parts of arrays of its own, of the lengths that the head asks for; and every store afterwards.
-fn run_largest(
-    head: &[usize; HEAD],
-    starts: &[usize],
-    columns: &[usize],
-    l_subs: &[usize],
-    l_starts: &[usize],
-    l_slots: &[usize],
-    u_subs: &[usize],
-    u_starts: &[usize],
-    u_slots: &[usize],
-    values: &[f64],
-    right: &[f64],
-) {
-    let mut l = [BEFORE_NUMBER; SLOTS];
-    let mut u = [BEFORE_NUMBER; SLOTS];
-    let mut diagonal = [BEFORE_NUMBER; PLACES];
-    let mut solution = [BEFORE_NUMBER; PLACES];
-    let mut pivots = [BEFORE; PLACES];
-    let mut row_heads = [BEFORE; PLACES];
-    let mut row_links = [BEFORE; PLACES];
-    let mut set_heads = [BEFORE; PLACES];
-    let mut set_links = [BEFORE; PLACES];
-    let mut list = [BEFORE; PLACES];
-    let mut spare = [BEFORE; PLACES];
-    let mut copy = [BEFORE_NUMBER; PLACES];
-    let mut dense = [BEFORE_NUMBER; PLACES];
-    let answer = elimination::run_largest(
-        head[0],
-        head[1],
-        starts,
-        columns,
-        counts(head),
-        l_subs,
-        l_starts,
-        l_slots,
-        u_subs,
-        u_starts,
-        u_slots,
-        values,
-        right,
-        extent(head),
-        front_numbers(&mut l, head[23]),
-        front_numbers(&mut u, head[24]),
-        front_numbers(&mut diagonal, head[25]),
-        front_numbers(&mut solution, head[26]),
-        front(&mut pivots, head[27]),
-        front(&mut row_heads, head[28]),
-        front(&mut row_links, head[29]),
-        front(&mut set_heads, head[30]),
-        front(&mut set_links, head[31]),
-        front(&mut list, head[32]),
-        front(&mut spare, head[33]),
-        front_numbers(&mut copy, head[34]),
-        front_numbers(&mut dense, head[35]),
-    );
-    show_results(head, answer, &l, &u, &diagonal, &solution, &pivots);
-    show_work(
-        head,
-        &row_heads,
-        &row_links,
-        &set_heads,
-        &set_links,
-        &list,
-        &spare,
-        &copy,
-        &dense,
-    );
-}
-
-// A run by the list, in parts of arrays of its own, of the lengths that the head asks for; and every store afterwards.
-fn run_listed(
+// A run, in parts of arrays of its own, of the lengths that the head asks for; and every store afterwards.
+fn run(
     head: &[usize; HEAD],
     starts: &[usize],
     columns: &[usize],
@@ -240,9 +176,9 @@ fn run_listed(
     let mut spare = [BEFORE; PLACES];
     let mut copy = [BEFORE_NUMBER; PLACES];
     let mut dense = [BEFORE_NUMBER; PLACES];
-    let answer = elimination::run_listed(
-        head[0],
-        head[1],
+    let answer = elimination::run(
+        request::word(head, 0),
+        request::word(head, 1),
         starts,
         columns,
         counts(head),
@@ -254,21 +190,22 @@ fn run_listed(
         u_slots,
         values,
         right,
+        choice(head),
         rows,
         extent(head),
-        front_numbers(&mut l, head[23]),
-        front_numbers(&mut u, head[24]),
-        front_numbers(&mut diagonal, head[25]),
-        front_numbers(&mut solution, head[26]),
-        front(&mut pivots, head[27]),
-        front(&mut row_heads, head[28]),
-        front(&mut row_links, head[29]),
-        front(&mut set_heads, head[30]),
-        front(&mut set_links, head[31]),
-        front(&mut list, head[32]),
-        front(&mut spare, head[33]),
-        front_numbers(&mut copy, head[34]),
-        front_numbers(&mut dense, head[35]),
+        front_numbers(&mut l, head, 23),
+        front_numbers(&mut u, head, 24),
+        front_numbers(&mut diagonal, head, 25),
+        front_numbers(&mut solution, head, 26),
+        front(&mut pivots, head, 27),
+        front(&mut row_heads, head, 28),
+        front(&mut row_links, head, 29),
+        front(&mut set_heads, head, 30),
+        front(&mut set_links, head, 31),
+        front(&mut list, head, 32),
+        front(&mut spare, head, 33),
+        front_numbers(&mut copy, head, 34),
+        front_numbers(&mut dense, head, 35),
     );
     show_results(head, answer, &l, &u, &diagonal, &solution, &pivots);
     show_work(
@@ -310,23 +247,7 @@ pub fn verify_and_run(
         u_starts,
         u_slots,
     );
-    if head[20] == 0 {
-        run_largest(
-            head,
-            starts,
-            columns,
-            l_subs,
-            l_starts,
-            l_slots,
-            u_subs,
-            u_starts,
-            u_slots,
-            values,
-            right,
-        );
-        return;
-    }
-    run_listed(
+    run(
         head,
         starts,
         columns,

@@ -23,6 +23,7 @@ fn decimal(value: usize) {
     io::print_decimal(STDOUT_FILENO, value as u64);
 }
 
+// The end of a line.
 fn end() {
     io::write_all(STDOUT_FILENO, b"\n");
 }
@@ -69,6 +70,7 @@ pub fn numbers(name: &[u8], places: &[f64]) {
     end();
 }
 
+// The sum over the places of a store of f64, by their bits.
 fn sum_of_numbers(places: &[f64]) -> u64 {
     let mut sum = 0;
     let mut i = 0;
@@ -99,6 +101,7 @@ pub fn rows(name: &[u8], places: &[usize]) {
     end();
 }
 
+// The sum over the places of a store of rows.
 fn sum_of_rows(places: &[usize]) -> u64 {
     let mut sum = 0;
     let mut i = 0;
@@ -128,6 +131,7 @@ pub fn verified(answer: VerifyAnswer) {
     }
 }
 
+// Document 01's number of a refusal of planning's.
 fn refusal_number(refusal: Refusal) -> usize {
     match refusal {
         Refusal::Limits => 1,
@@ -142,6 +146,7 @@ fn refusal_number(refusal: Refusal) -> usize {
     }
 }
 
+// Document 01's number of the reason why a run stopped.
 fn reason_number(reason: RunReason) -> usize {
     match reason {
         RunReason::Limits => 1,

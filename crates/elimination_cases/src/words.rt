@@ -27,10 +27,12 @@ fn joined(bytes: &[u8; 2]) -> usize {
     wide(bytes[0]) | (wide(bytes[1]) << 8)
 }
 
+// The number in four bytes.
 fn joined_four(bytes: &[u8; 4]) -> usize {
     wide(bytes[0]) | (wide(bytes[1]) << 8) | (wide(bytes[2]) << 16) | (wide(bytes[3]) << 24)
 }
 
+// The bit pattern in eight bytes.
 fn joined_eight(bytes: &[u8; 8]) -> u64 {
     let low = part(bytes[0])
         | (part(bytes[1]) << 8)
@@ -61,6 +63,7 @@ fn next() -> Word {
     Word::Value(joined(&bytes))
 }
 
+// The next number of four bytes.
 fn next_four() -> Word {
     let mut bytes = [0u8; 4];
     let got = io::read_full(libc::STDIN_FILENO, &mut bytes);
@@ -70,6 +73,7 @@ fn next_four() -> Word {
     Word::Value(joined_four(&bytes))
 }
 
+// The next f64.
 fn next_number() -> Number {
     let mut bytes = [0u8; 8];
     let got = io::read_full(libc::STDIN_FILENO, &mut bytes);

@@ -15,7 +15,7 @@ use Rattle.lists.specs.Sets.{upto}
 use Rattle.lists.proofs.Members.{by-test, and-left, and-right}
 use Rattle.lists.proofs.Places.{length-upto, padded-full}
 use Rattle.foundation.specs.Answer.{Answer, refused, granted, refuseIf, andThen, resultStore}
-use Rattle.foundation.specs.Claims.{RunAlike, RunIs, RunsAlike, ListedPivots, ZeroOutside}
+use Rattle.foundation.specs.Claims.{RunAlike, RunIs, RunsAlike, ListedPivots, PivotsCounted, ZeroOutside}
 use Rattle.foundation.specs.Facts.{Plannable, PlanFacts}
 use Rattle.foundation.specs.Numbers.{plusZero, mayPivot}
 use Rattle.foundation.specs.Pattern.{Lent, Pattern, patternOf, patternFault, judged}
@@ -26,7 +26,7 @@ use Rattle.foundation.specs.RunCall.{Lending, lendingFits, allFinite, ch
 use Rattle.foundation.specs.Shown.{shown, shownDiagonal, slotRead, laid}
 use Rattle.foundation.specs.Slots.{Slot, none, onDiagonal, inSide, slotAt, hasSlot, slotsOf}
 use Rattle.foundation.specs.Square.{Square}
-use Rattle.foundation.proofs.FloatRun.{Did, run-did, runTo, reference-keeps, steps-fit, zero-outside-from}
+use Rattle.foundation.proofs.FloatRun.{Did, run-did, runTo, pivots-length, reference-keeps, steps-fit, zero-outside-from}
 use Rattle.foundation.proofs.LaidBack.{laid-back}
 
 -- ---- the answer
@@ -158,3 +158,11 @@ listed-pivots p rows extent order values right g e =
     let long : length rows ≡ p .n = eqb-true _ _ (and-left (eqb (length rows) (p .n)) _ fits) in
     let within : stepsOf extent (p .n) ≤ p .n = steps-fit p extent (and-right (choiceFits p (listed rows)) (extentFits p extent) order) in
     same .pivots ∙ rows-done p rows values right (stepsOf extent (p .n)) was (omega arith) from
+
+-- ---- the pivot rows of either choice
+
+pub pivots-counted : PivotsCounted
+unfolding PivotsCounted
+pivots-counted p choice extent values right g e =
+    let (was, from, same) = reference-keeps choice extent p values right g e in
+    ap length (same .pivots) ∙ pivots-length p choice values right (stepsOf extent (p .n)) was from

@@ -22,6 +22,8 @@ pub mod JobRoom
 pub mod Alike
 pub mod Enough
 pub mod Accepted
+pub mod PlannedRun
+pub mod LargestRow
 pub mod Theorems
 pub mod Open
 pub mod Marked

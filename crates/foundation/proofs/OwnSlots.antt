@@ -1,19 +1,23 @@
 -- Each place that has a slot has one of its own: what all slots show of a square that differs at one place differs at that place's slot alone.
 use mathlib.Core.Bool.{true, false, cond, _&&_, false≢true}
 use mathlib.Core.Path.{_≡_, refl, sym, ap, _∙_}
-use Prim.Native.Nat.{ℕ, _+_, _≤_}
+use Prim.Native.Nat.{ℕ, zero, suc, _+_, _-_, _≤_, _<_}
 use native.Mathlib.Omega.{arith}
 use lib.Dec.{eqb}
 use lib.Ieee.{Float, nan, fin}
-use borrow.Author.Tests.{eqb-true, eq-eqb}
+use borrow.Author.Tests.{eqb-true, eq-eqb, lt-ltb}
+use Rattle.lists.specs.Sets.{member, indexOf}
 use Rattle.lists.proofs.Members.{by-test, and-left, and-right}
-use Rattle.foundation.specs.Claims.{OwnSlots}
+use Rattle.lists.proofs.Places.{index-below}
+use Rattle.foundation.specs.Claims.{OwnSlots, slotWithin, SlotsWithin}
 use Rattle.foundation.specs.Numbers.{plusZero}
-use Rattle.foundation.specs.Plan.{Planning, lower, upper}
+use Rattle.foundation.specs.Plan.{Planning, Side, lower, upper}
 use Rattle.foundation.specs.Shown.{atSide, shown, shownDiagonal, slotRead}
-use Rattle.foundation.specs.Slots.{hasSlot, none, slotAt}
+use Rattle.foundation.specs.Slots.{hasSlot, none, slotAt, slotsOf}
 use Rattle.foundation.specs.Square.{Square}
+use Rattle.foundation.specs.Subscripts.{kept}
 use Rattle.foundation.proofs.LaidBack.{SlotCase, diagonal-slot, upper-slot, lower-slot, no-slot, slot-case, slot-none, none-no-slot, shown-reads, diagonal-reads}
+use Rattle.foundation.proofs.Starts.{slots-next, slots-grow}
 
 -- a square that is not a number at (i, j), and +0 elsewhere
 alone : ℕ → ℕ → Square Float
@@ -64,3 +68,24 @@ own-slots s i j = (
   ),
   λ a b. same-slot s i j a b,
 )
+
+-- ---- within the planned slots
+
+-- a kept subscript of list k has its slot among those of the first n lists
+side-within :
+    (s : Planning) (side : Side) (n k x : ℕ) → 1 ≤ k → k ≤ n → member x (kept s side k) ≡ true
+    → slotsOf s side (k - 1) + indexOf x (kept s side k) < slotsOf s side n
+side-within s side n zero x low high m = absurd (omega arith)
+side-within s side n (suc t) x low high m =
+    let before : suc t - 1 ≡ t = omega arith in
+    rw before (omega (arith, index-below x (kept s side (suc t)) m, slots-next s side t, slots-grow s side (suc t) n high))
+
+pub slots-within : SlotsWithin
+unfolding SlotsWithin slotWithin
+slots-within s n i j (i-low, i-high, j-low, j-high) has = at (slot-case s i j)
+  where
+    at : SlotCase s i j → slotWithin s n (slotAt s i j) ≡ true
+    at (diagonal-slot e w) = rw w (lt-ltb (i - 1) n (omega arith))
+    at (upper-slot h m w) = rw w (lt-ltb _ _ (side-within s upper n i j i-low i-high m))
+    at (lower-slot h m w) = rw w (lt-ltb _ _ (side-within s lower n j i j-low j-high m))
+    at (no-slot without w) = absurd (false≢true (sym without ∙ has))

@@ -11,7 +11,7 @@ use Rattle.foundation.specs.Pattern.{Lent, Pattern, patternOf, patternFa
 use Rattle.foundation.specs.Plan.{Side, plan}
 use Rattle.foundation.specs.Subscripts.{kept}
 use Rattle.foundation.specs.Facts.{PlanFacts, Opens, sizesOf}
-use Rattle.foundation.specs.Claims.{FirstHalf, RunsOn, SlotsSuffice, MultipliersStay, ZeroOutside, LaidBack, OwnSlots, MetOnce, JobRoom, RunsAlike, ListedPivots, PlanAccepted, RoomEnough, SlotsEnough}
+use Rattle.foundation.specs.Claims.{FirstHalf, RunsOn, SlotsSuffice, MultipliersStay, ZeroOutside, LaidBack, OwnSlots, SlotsWithin, MetOnce, JobRoom, RunsAlike, ListedPivots, PivotsCounted, PlanAccepted, RoomEnough, SlotsEnough, PlannedRunsAlike, LargestRow, ListedRow}
 use Rattle.foundation.proofs.Passing.{passes-plannable, passes-entries}
 use Rattle.foundation.proofs.Steps.{list-none}
 use Rattle.foundation.proofs.PlanFacts.{plan-facts}
@@ -29,6 +29,8 @@ use Rattle.foundation.proofs.Alike
 use Rattle.foundation.proofs.Alike.{runs-alike-from}
 use Rattle.foundation.proofs.Accepted
 use Rattle.foundation.proofs.Enough.{room-enough-from, slots-enough-from}
+use Rattle.foundation.proofs.PlannedRun.{planned-runs-alike-from}
+use Rattle.foundation.proofs.LargestRow
 
 -- the plan's facts
 pub plan-has-its-facts : (most : ℕ) (p : Lent) → patternFault most p ≡ 0 → PlanFacts (patternOf p) (plan (patternOf p))
@@ -79,6 +81,10 @@ laid-back = laid-back-from plan-facts passes-plannable
 pub own-slots : OwnSlots
 own-slots = OwnSlots.own-slots
 
+-- and it lies within the planned slots
+pub slots-within : SlotsWithin
+slots-within = OwnSlots.slots-within
+
 -- each row is met exactly once
 pub met-once : MetOnce
 met-once = met-once-from plan-facts passes-plannable
@@ -95,6 +101,10 @@ runs-alike = runs-alike-from plan-facts passes-plannable
 pub listed-pivots : ListedPivots
 listed-pivots = Alike.listed-pivots
 
+-- by either choice there are as many pivot rows as steps done
+pub pivots-counted : PivotsCounted
+pivots-counted = Alike.pivots-counted
+
 -- a plan just made is the pattern's plan
 pub plan-accepted : PlanAccepted
 plan-accepted = Accepted.plan-accepted
@@ -105,3 +115,14 @@ room-enough = room-enough-from plan-facts passes-plannable
 
 pub slots-enough : SlotsEnough
 slots-enough = slots-enough-from plan-facts passes-plannable
+
+-- demand 3, second half, from the pattern to the run
+pub planned-runs-alike : PlannedRunsAlike
+planned-runs-alike = planned-runs-alike-from room-enough plan-accepted slots-enough runs-alike
+
+-- the row with the largest entry is the lowest of those with the largest magnitude; a list's row is p_k
+pub largest-row : LargestRow
+largest-row = LargestRow.largest-row
+
+pub listed-row : ListedRow
+listed-row = LargestRow.listed-row

@@ -5,19 +5,19 @@ use mathlib.Core.List.{List, _++_, map}
 use mathlib.Core.Logic.{_↔_}
 use mathlib.Core.Path.{_≡_}
 use Prim.Native.Nat.{ℕ, _-_, _*_, _≤_, _<_}
-use lib.Dec.{eqb}
-use lib.Ieee.{Float}
-use lib.ListN.{length, take}
+use lib.Dec.{eqb, ltb}
+use lib.Ieee.{Float, lt}
+use lib.ListN.{length, getD, take}
 use Rattle.lists.specs.Functions.{keep, chain, padded}
 use Rattle.lists.specs.Sets.{upto}
 use Rattle.foundation.specs.Answer.{Answer, refused, granted, andThen}
 use Rattle.foundation.specs.Pattern.{Lent, Pattern, patternOf, patternFault, judged}
 use Rattle.foundation.specs.Plan.{Planning, Side, plan, lower, upper}
 use Rattle.foundation.specs.Subscripts.{roomFault}
-use Rattle.foundation.specs.Slots.{hasSlot, none, slotAt, slotsOf}
-use Rattle.foundation.specs.Numbers.{plusZero}
+use Rattle.foundation.specs.Slots.{Slot, none, onDiagonal, inSide, hasSlot, slotAt, slotsOf}
+use Rattle.foundation.specs.Numbers.{plusZero, finite, magnitude, mayPivot}
 use Rattle.foundation.specs.Square.{Square}
-use Rattle.foundation.specs.Reference.{Choice, listed, Extent, whole, stepsOf, Going, Course, going, stopped, numberOf, reference}
+use Rattle.foundation.specs.Reference.{Choice, largest, listed, Extent, whole, stepsOf, pivotRow, Going, Course, going, stopped, numberOf, reference}
 use Rattle.foundation.specs.Shown.{shown, shownDiagonal, laid}
 use Rattle.foundation.specs.Free.{FreeStep, FreeState, freeStart, freeRun, freeAfter}
 use Rattle.foundation.specs.PlanCall.{PlanStores, LentPlan, WorkSizes, workFits, sizesFit, agrees, countsOf, planned, planLeaves, held}
@@ -111,6 +111,20 @@ OwnSlots =
     → slotAt s i j ≡ slotAt s i′ j′
     → (i ≡ i′) × (j ≡ j′))
 
+-- whether a slot is one of the diagonal's n, or of those planned for its side
+unfoldable pub slotWithin : Planning → ℕ → Slot → Bool
+slotWithin s n none = false
+slotWithin s n (onDiagonal q) = ltb q n
+slotWithin s n (inSide side q) = ltb q (slotsOf s side n)
+
+-- The slot of a place of the square lies within them: no slot beyond those that 10 asks room for.
+unfoldable pub SlotsWithin : Type 0
+SlotsWithin =
+    (s : Planning) (n i j : ℕ)
+    → (1 ≤ i) × (i ≤ n) × (1 ≤ j) × (j ≤ n)
+    → hasSlot s i j ≡ true
+    → slotWithin s n (slotAt s i j) ≡ true
+
 -- Each row is met exactly once: in the lists of rows first met at steps 1 to n, one behind the other, row i stands once.
 unfoldable pub MetOnce : Type 0
 MetOnce =
@@ -181,6 +195,13 @@ ListedPivots =
     → reference (listed rows) extent p values right ≡ going g
     → g .pivots ≡ take (stepsOf extent (p .n)) rows
 
+-- "up to the last step done": by either choice there is a pivot row for each step done, and no other.
+unfoldable pub PivotsCounted : Type 0
+PivotsCounted =
+    (p : Pattern) (choice : Choice) (extent : Extent) (values : Square Float) (right : ℕ → Float) (g : Going)
+    → reference choice extent p values right ≡ going g
+    → length (g .pivots) ≡ stepsOf extent (p .n)
+
 -- What planning leaves in its stores, lent with the counts that it answered, is this pattern's plan: 9 never meets a plan just made.
 unfoldable pub PlanAccepted : Type 0
 PlanAccepted =
@@ -202,3 +223,49 @@ RoomEnough =
 -- and n(n-1)/2 slots a side are as many as any plan has.
 unfoldable pub SlotsEnough : Type 0
 SlotsEnough = (most : ℕ) (p : Lent) → patternFault most p ≡ 0 → (side : Side) → 2 * slotsOf (plan (patternOf p)) side (p .n) ≤ p .n * (p .n - 1)
+
+-- Demand 3, second half, from the pattern to the run: for every pattern that passes 1 to 5, "all finite values and right sides, every list naming for
+-- each step k one of the rows k to n, and a run whole or cut after any number of steps, the run in the slots and the full square's are alike",
+-- and "No such run is ever refused for storage". What a caller answers for is said in n, entries and lengths alone: the lengths of 6 in both calls,
+-- room for n(n-1)/2 subscripts and slots a side, the other lengths of 10, then 11 and 12. Planning then grants the pattern's plan, so neither 7 nor
+-- 8; and the run on the plan just made comes to the full square's end alike, or stops where it stops with 13 or 14.
+unfoldable pub PlannedRunsAlike : Type 0
+PlannedRunsAlike =
+    (most : ℕ) (p : Lent) (stores : PlanStores) (work later : WorkSizes) (choice : Choice) (extent : Extent) (w : Lending)
+    → patternFault most p ≡ 0
+    → (sizesFit p stores work ≡ true) × (workFits p later ≡ true)
+    → (p .n * (p .n - 1) ≤ 2 * length (stores .lowerSide .subs)) × (p .n * (p .n - 1) ≤ 2 * length (stores .upperSide .subs))
+    → (p .n * (p .n - 1) ≤ 2 * w .lowerSlots) × (p .n * (p .n - 1) ≤ 2 * w .upperSlots)
+    → (length (w .values) ≡ length (p .columns)) × (length (w .right) ≡ p .n) × (w .solution ≡ p .n) × (w .pivots ≡ p .n) × (w .diagonal ≡ p .n)
+    → (allFinite w ≡ true) × (orderFits (patternOf p) choice extent ≡ true)
+    → (planned most p stores work ≡ granted (plan (patternOf p)))
+    × RunIs p w
+    (reference choice extent (patternOf p) (valueAt p (w .values)) (rightAt (w .right)))
+    (ran most p (record { counts = countsOf p (plan (patternOf p)); stores = planLeaves p (planned most p stores work) stores }) later choice extent w)
+
+-- ---- the pivot row of a step
+
+-- Document 01, "Elimination": r is "the row from k to n with the largest magnitude in column k, the lowest row number if equal", n being `last`: it lies
+-- there and its entry is no zero, no entry there has a larger magnitude, and each before it has a smaller one. Table, 13: r is 0 just where "no row
+-- from k on (..) has a nonzero entry".
+pub record LargestFrom (k last : ℕ) (entry : ℕ → Float) (r : ℕ) : Type 0 where
+  pub without : (r ≡ 0) ↔ ((i : ℕ) → (k ≤ i) × (i ≤ last) → mayPivot (entry i) ≡ false)
+  pub found : 1 ≤ r → (k ≤ r) × (r ≤ last) × (mayPivot (entry r) ≡ true)
+  pub greatest : 1 ≤ r → (i : ℕ) → (k ≤ i) × (i ≤ last) → lt (magnitude (entry r)) (magnitude (entry i)) ≡ false
+  pub lowest : 1 ≤ r → (i : ℕ) → (k ≤ i) × (i < r) → lt (magnitude (entry i)) (magnitude (entry r)) ≡ true
+
+-- The row of a step by the largest entry is that row, in every column whose entries are finite.
+unfoldable pub LargestRow : Type 0
+LargestRow =
+    (last k : ℕ) (entry : ℕ → Float)
+    → 1 ≤ k
+    → ((i : ℕ) → (k ≤ i) × (i ≤ last) → finite (entry i) ≡ true)
+    → LargestFrom k last entry (pivotRow largest last k entry)
+
+-- "or row p_k of a given list": the row of a step by a list is p_k if its entry is no zero, else there is none (13).
+unfoldable pub ListedRow : Type 0
+ListedRow =
+    (rows : List ℕ) (last k : ℕ) (entry : ℕ → Float)
+    → 1 ≤ k
+    → (mayPivot (entry (getD rows (k - 1) 0)) ≡ true → pivotRow (listed rows) last k entry ≡ getD rows (k - 1) 0)
+    × (mayPivot (entry (getD rows (k - 1) 0)) ≡ false → pivotRow (listed rows) last k entry ≡ 0)

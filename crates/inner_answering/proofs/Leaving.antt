@@ -15,8 +15,9 @@ use Rattle.answers.specs.declared.RunOutcome.{RunOutcome}
 use Rattle.answers.specs.declared.RunOutcome.the-variants.{Finished, Stopped}
 use Rattle.inner_slots.specs.Handing.{Clear}
 use Rattle.answers.specs.RunStores.{lendingOf, runStores}
-use Rattle.inner_answering.specs.Cleared.{Inputs, ranOn, Cleared, StoresAs, blanked, ClearedIfStopped, OutcomeLeft, RunLeft}
-use Rattle.inner_answering.specs.Gate.{lendingBy, withFloats}
+use Rattle.inner_clearing.specs.Blanks.{blanked, ClearedIfStopped}
+use Rattle.inner_answering.specs.Cleared.{Inputs, ranOn, Cleared, StoresAs, OutcomeLeft, RunLeft}
+use Rattle.inner_judging.specs.Gate.{lendingBy, withFloats}
 
 -- ---- stores by their lengths
 

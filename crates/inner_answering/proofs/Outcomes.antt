@@ -34,16 +34,19 @@ use Rattle.answers.specs.declared.RunOutcome.the-variants.{Finished, Stopped}
 use Rattle.answers.specs.declared.RunReason.{RunReason}
 use Rattle.inner_slots.specs.Handing.{Clear}
 use Rattle.inner_slots.specs.Shows.{Shows, ShowsAll}
-use Rattle.inner_running.specs.Running.{choiceOf, RunAsks, Finishes, EndsAs, RunLeaves}
+use Rattle.inner_asking.specs.Asking.{choiceOf}
+use Rattle.inner_running.specs.Running.{RunAsks, Finishes, EndsAs, RunLeaves}
 use Rattle.inner_running.specs.declared.RunEnd.{RunEnd}
 use Rattle.inner_running.specs.declared.RunEnd.the-variants.{All, NoPivotAt, NotFiniteAt}
 use Rattle.answers.specs.RunStores.{lendingOf, runStores}
 use Rattle.inner_answering.specs.Cleared.{Inputs, inputs, Given, ranOn, Cleared, outcomeFor, StoresAs, OutcomeLeft}
-use Rattle.inner_answering.specs.Gate.{gateOf, floatsFit, withFloats, lendingBy, testedWith, tested, GateAsks}
-use Rattle.inner_answering.specs.declared.gate.Gate.{Gate}
-use Rattle.inner_answering.specs.declared.gate.Gate.the-variants.{Open, Shut}
-use Rattle.inner_answering.proofs.Gates.{sizes-more}
-use Rattle.inner_answering.proofs.Verified.{Verified, held-is, verified-from, layout}
+use Rattle.inner_clearing.proofs.Stores.{same-stores}
+use Rattle.inner_judging.specs.Gate.{gateOf, floatsFit, withFloats, lendingBy, testedWith, tested, GateAsks}
+use Rattle.inner_judging.specs.declared.gate.Gate.{Gate}
+use Rattle.inner_judging.specs.declared.gate.Gate.the-variants.{Open, Shut}
+use Rattle.inner_judging.proofs.Gates.{sizes-more}
+use Rattle.inner_judging.proofs.Verified.{Verified, held-is, verified-from}
+use Rattle.inner_answering.proofs.Agreed.{agreed-layout}
 
 -- ---- the tests and the run
 
@@ -153,11 +156,6 @@ floats-from most p q work copy dense e =
 
 -- ---- how a course ended, as an outcome and in the stores
 
--- stores that are the same one by one
-pub same-stores : {l l′ u u′ d d′ x x′ : List Float} {pivots pivots′ : List ℕ} → l ≡ l′ → u ≡ u′ → d ≡ d′ → x ≡ x′ → pivots ≡ pivots′
-    → runStores l u d x pivots ≡ runStores l′ u′ d′ x′ pivots′
-same-stores a b c d e = rw (a, b, c, d, e)
-
 -- a store that is full has nothing behind it
 full-store : (f : ℕ → Float) (n room : ℕ) (store : List Float) → store ≡ map f (upto n) → room ≡ n → store ≡ padded plusZero room (map f (upto n))
 full-store f n room store e size =
@@ -220,7 +218,7 @@ module _ (n : ℕ) (starts columns : List ℕ) (counts : PlanCounts) (lSubs lSta
           columns-are = refl;
           plannable = passes-plannable most p (w .verified .passes);
           starts-fit = passes-starts most p (w .verified .passes);
-          layout = layout most p q (withFloats work (length copy) (length dense)) (w .verified);
+          layout = agreed-layout most p q (w .verified .passes) (w .verified .same-plan);
           values-size = lends .values-size;
           right-size = lends .right-size;
           l-size = lends .lower-room;

@@ -22,11 +22,11 @@ use Rattle.answers.specs.declared.RunOutcome.{RunOutcome}
 use Rattle.answers.specs.declared.RunOutcome.the-variants.{Finished, Stopped}
 use Rattle.answers.specs.declared.RunReason.the-variants.{NoPivot, NotFinite}
 use Rattle.inner_slots.specs.Handing.{Clear}
-use Rattle.inner_running.specs.Running.{choiceOf}
+use Rattle.inner_asking.specs.Asking.{choiceOf}
 use Rattle.inner_running.specs.declared.RunEnd.{RunEnd}
 use Rattle.inner_running.specs.declared.RunEnd.the-variants.{All, NoPivotAt, NotFiniteAt}
 use Rattle.answers.specs.RunStores.{lendingOf}
-use Rattle.inner_answering.specs.Gate.{withFloats}
+use Rattle.inner_judging.specs.Gate.{withFloats}
 
 -- what a run is asked: the pattern, the lent plan, values and right side, whose rows are chosen, and how far it goes
 pub record Inputs : Type 0 where
@@ -76,22 +76,6 @@ outcomeFor (NotFiniteAt k) = Stopped NotFinite k
 abbrev pub StoresAs : RunOutcome → Lent → Lending → Answer Ran → RunStores → Type 0
 StoresAs (Finished updates) p lending answer stores = stores ≡ runLeaves p lending answer
 StoresAs (Stopped reason step) p lending answer stores = Unit {0}
-
--- every result store is zero throughout
-abbrev pub blanked : RunStores → RunStores
-blanked stores =
-    record {
-      lowerSlots = replicate (length (stores .lowerSlots)) plusZero;
-      upperSlots = replicate (length (stores .upperSlots)) plusZero;
-      diagonal = replicate (length (stores .diagonal)) plusZero;
-      solution = replicate (length (stores .solution)) plusZero;
-      pivots = replicate (length (stores .pivots)) 0;
-    }
-
--- the result stores of a run that stopped are cleared
-abbrev pub ClearedIfStopped : RunOutcome → RunStores → RunStores → Type 0
-ClearedIfStopped (Finished updates) stores stores′ = stores′ ≡ stores
-ClearedIfStopped (Stopped reason step) stores stores′ = stores′ ≡ blanked stores
 
 -- What a run leaves in cleared stores: its outcome, and its result stores if it finished.
 pub record OutcomeLeft (r : RunOutcome) (i : Inputs) (most : ℕ) (work : WorkSizes) (l u d x : List Float) (pivots : List ℕ) (copy dense : List Float) (results′ : RunStores) : Type 0 where

@@ -9,16 +9,13 @@ use answers::RunAnswer;
 use answers::RunOutcome;
 use answers::RunReason;
 use answers::VerifyAnswer;
-use clear::clear_floats;
-use clear::clear_if_stopped;
-use clear::clear_results;
-use gate::Gate;
-use gate::checked;
+use inner_clearing::clear_floats;
+use inner_clearing::clear_if_stopped;
+use inner_clearing::clear_results;
+use inner_judging::Gate;
+use inner_judging::checked;
 use inner_running::RunEnd;
 use inner_running::run_planned;
-
-mod clear;
-mod gate;
 
 // How a run ended, as its outcome.
 fn outcome_for(end: RunEnd) -> RunOutcome

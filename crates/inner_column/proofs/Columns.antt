@@ -21,7 +21,7 @@ use Rattle.foundation.specs.Shown.{shownDiagonal}
 use Rattle.foundation.proofs.FloatSteps.{multiplier-zero, eliminated-above, eliminated-right, eliminated-zero}
 use Rattle.inner_slots.specs.Flags.{flagged, nonzeros}
 use Rattle.inner_slots.proofs.Mapped.{map-cong}
-use Rattle.inner_sides.specs.Stretches.{Below}
+use Rattle.inner_stretches.specs.Stretches.{Below}
 use Rattle.inner_column.specs.Column.{overPivot, followed, rewritten, Rewritten, ColumnAsks, ColumnLeaves}
 use Rattle.inner_column.proofs.Rewriting.{row-place}
 

@@ -21,8 +21,8 @@ use Rattle.inner_slots.specs.Flags.{flagged}
 use Rattle.inner_slots.proofs.Flags.{flagged-more}
 use Rattle.inner_slots.proofs.Mapped.{map-cong, set-map, getD-mapped}
 use Rattle.inner_slots.proofs.Places.{ascending-at, found-member}
-use Rattle.inner_sides.specs.Stretches.{Below, UpTo}
-use Rattle.inner_sides.proofs.Within.{not-before, member-snoc, member-snoc-other}
+use Rattle.inner_stretches.specs.Stretches.{Below, UpTo}
+use Rattle.inner_stretches.proofs.Within.{not-before, member-snoc, member-snoc-other}
 use Rattle.inner_column.specs.Column.{followed, rewritten, Rewritten}
 
 -- ---- a store with a place for each row

@@ -11,10 +11,10 @@ ghost use Rattle.lists.specs.Sets.{member, upto, Ascending};
 ghost use Rattle.foundation.specs.Numbers.{finite};
 ghost use Rattle.foundation.specs.Reference.{reduced};
 ghost use Rattle.inner_slots.specs.Flags.{flagged, nonzeros};
-ghost use Rattle.inner_sides.specs.Stretches.{Below};
+ghost use Rattle.inner_stretches.specs.Stretches.{Below};
 ghost use Rattle.inner_column.specs.Column.{overPivot, followed, Rewritten};
 use crate::FlagCount;
-use inner_sides::first_above;
+use inner_stretches::first_above;
 
 // The entries of a column below the pivot are divided by it. Counts the multipliers that are not zero.
 pub fn divide(part: &mut [f64], pivot: f64, flag: usize) -> FlagCount

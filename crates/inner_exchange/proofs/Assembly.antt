@@ -174,7 +174,7 @@ module _ (k place : ℕ) (lSubs lStarts lSlots uSubs uStarts uSlots : List ℕ) 
 
         -- ---- column p is done
 
-        module _ (u₃ d₃ : List Float) (crossing : (u₃ ≡ set u₂ (first + t) (getD d₁ (p - 1) nan)) × (d₃ ≡ set d₁ (p - 1) (getD u₂ (first + t) nan)))
+        module _ (u₃ d₃ : List Float) (crossing : (d₃ ≡ set d₁ (p - 1) (getD u₂ (first + t) nan)) × (u₃ ≡ set u₂ (first + t) (getD d₁ (p - 1) nan)))
             (begin close second : ℕ) (other : (a : ListAsks uSubs uStarts uSlots p) → ListLeaves begin close second uSubs uStarts uSlots p a) where
           pub crossed : Traded (w .s) (w .n) k p (t + 1) (w .square) (w .right) l₂ u₃ d₃ x
           crossed =

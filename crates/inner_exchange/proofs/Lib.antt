@@ -1,8 +1,4 @@
--- Laws of the pivot row and of the exchange.
-pub mod Magnitudes
-pub mod Best
-pub mod Seeking
-pub mod Chosen
+-- Laws of the exchange.
 pub mod Opening
 pub mod Puts
 pub mod Columns

@@ -1,5 +1,4 @@
--- What the contracts of the pivot row and of the exchange cite.
-pub mod Pivot
+-- What the contracts of the exchange cite.
 pub mod Places
 pub mod Trading
 pub mod Exchange

@@ -1,7 +1,7 @@
 -- What a run leaves in stores of the job's sizes is the job's run: of the lent stores only the lengths count.
 use mathlib.Core.Bool.{true}
 use mathlib.Core.List.{List, [], _∷_}
-use mathlib.Core.Path.{_≡_, refl, ap, _∙_}
+use mathlib.Core.Path.{_≡_, refl, ap, sym, _∙_}
 use Prim.Native.Nat.{ℕ, _≤_}
 use native.Mathlib.Omega.{arith}
 use lib.Ieee.{Float, binary64, ofBits}
@@ -48,14 +48,14 @@ run-done r p q choice values right l u d x l′ u′ d′ x′ pivots pivots′ 
       chosen = ap (λ (s : RunStores). s .pivots) (kept .results) ∙ rw (here, sized .pivots-size);
     }
 
--- what a run leaves is the job's run
-pub job-ran : (r : RunAnswer) (n : ℕ) (starts columns : List ℕ) (q : LentPlan) (choice : Choice) (values right l u d x l′ u′ d′ x′ : List Float) (pivots pivots′ : List ℕ) (work′ : RunWork) → n ≤ 128
+-- what a run leaves is the job's run, with the choice of rows that is its own
+pub job-ran : (r : RunAnswer) (n : ℕ) (starts columns : List ℕ) (q : LentPlan) (choice choice′ : Choice) (values right l u d x l′ u′ d′ x′ : List Float) (pivots pivots′ : List ℕ) (work′ : RunWork) → choice ≡ choice′ → n ≤ 128
     → RunSized n l u d x pivots
     → RunKept r 128 (lent n starts columns) q choice (extentOf Whole) (lendingOf values right l u d x pivots) (runStores l′ u′ d′ x′ pivots′) (runFronts (ofBits binary64 0) n) work′
-    → JobRan r (lent n starts columns) q choice values right x′ pivots′
+    → JobRan r (lent n starts columns) q choice′ values right x′ pivots′
 unfolding lent
-job-ran r n starts columns q choice values right l u d x l′ u′ d′ x′ pivots pivots′ work′ small sized kept =
-    run-done r (lent n starts columns) q choice values right l u d x l′ u′ d′ x′ pivots pivots′ (runFronts (ofBits binary64 0) n) work′ (run-fronts-fit (lent n starts columns) (ofBits binary64 0) small) sized kept
+job-ran r n starts columns q choice choice′ values right l u d x l′ u′ d′ x′ pivots pivots′ work′ same small sized kept =
+    rw (sym same) (run-done r (lent n starts columns) q choice values right l u d x l′ u′ d′ x′ pivots pivots′ (runFronts (ofBits binary64 0) n) work′ (run-fronts-fit (lent n starts columns) (ofBits binary64 0) small) sized kept)
 
 -- without rows the largest entry chooses
 pub none-chosen : (rows : List ℕ) → length rows ≡ 0 → largest ≡ choiceOf rows

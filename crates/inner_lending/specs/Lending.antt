@@ -26,7 +26,7 @@ pub record PlanSized (n : ℕ) (stores : PlanStores) : Type 0 where
   pub u-starts : length (stores .upperSide .starts) ≡ n
   pub u-slots : length (stores .upperSide .slotStarts) ≡ suc n
 
--- the plan that `jobRun` makes of a pattern
+-- The plan that `jobRun` makes of a pattern: "n at most 128", 2,048 subscripts a side.
 unfoldable pub jobPlan : Lent → Answer Planning
 jobPlan p = planned maxJobN p (blankStores (p .n) jobRoom jobRoom) fittingWork
 
@@ -43,7 +43,7 @@ pub record RunSized (n : ℕ) (l u d x : List Float) (pivots : List ℕ) : Type 
   pub x-size : length x ≡ n
   pub pivots-size : length pivots ≡ n
 
--- what a job lends for values and right side
+-- Document 01, "Job": the program "lends 2,048 subscripts and 2,048 slots a side": `jobLending` by pattern, values and right side.
 unfoldable pub lentFor : Lent → List Float → List Float → Lending
 lentFor p values right =
     record {

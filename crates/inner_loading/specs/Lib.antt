@@ -1,3 +1,2 @@
 -- What loading takes for granted and leaves, row by row.
 pub mod Rows
-pub mod Sizes

@@ -1,101 +1,26 @@
-// What a run is lent, judged by 10, 11 and 12, and laid into the slots.
+// What a run is lent, laid into the slots.
 ghost use mathlib.Core.Path.{_≡_};
 ghost use Prim.Native.Nat.{_+_, _-_};
 ghost use lib.ListN.{length};
-ghost use Rattle.lists.specs.Functions.{all};
 ghost use Rattle.lists.specs.Sets.{indexOf};
-ghost use Rattle.foundation.specs.Numbers.{finite};
-ghost use Rattle.foundation.specs.Pattern.{Lent};
-ghost use Rattle.foundation.specs.Plan.{Planning};
-ghost use Rattle.foundation.specs.RunCall.{Lending, lendingFits, rowsInRange};
 ghost use Rattle.foundation.specs.Slots.{slotsOf};
 ghost use Rattle.foundation.specs.Subscripts.{kept};
 ghost use Rattle.inner_slots.specs.Handing.{LoadAsks, LoadLeaves};
 ghost use Rattle.inner_loading.specs.Rows.{SlotAsks, RowAsks, Loaded};
-ghost use Rattle.inner_loading.specs.Sizes.{Sizes};
+use answers::SlotPlace;
 use inner_slots::place_of;
 
-// Refusal 10, on numbers alone: values are as many as entries, right side, solution, pivot rows and diagonal have n places, and the slots are no
-// fewer than planned.
-pub fn lending_fits(
-    n: usize,
-    entries: usize,
-    values: usize,
-    right: usize,
-    solution: usize,
-    pivots: usize,
-    diagonal: usize,
-    l_places: usize,
-    u_places: usize,
-    l_planned: usize,
-    u_planned: usize,
-) -> bool
-    ensures { λ r. ⌜ ((p : Lent) (s : Planning) (w : Lending) → Sizes p s w n entries values right solution pivots diagonal «l_places» «u_places» «l_planned» «u_planned» → r ≡ lendingFits p s w) ⌝ }
-{
-    if values != entries {
-        return false;
-    }
-    if right != n {
-        return false;
-    }
-    if solution != n {
-        return false;
-    }
-    if pivots != n {
-        return false;
-    }
-    if diagonal != n {
-        return false;
-    }
-    if l_places < l_planned {
-        return false;
-    }
-    u_planned <= u_places
-}
-
-// Refusal 11, of the values or of the right side: whether all are finite.
-pub fn all_finite(values: &[f64]) -> bool
-    ensures { λ r. ⌜ r ≡ all finite (now (values .entry)) ⌝ }
-{
-    let mut q = 0;
-    while q < values.len() {
-        let value = values[q];
-        if value - value != 0.0 {
-            return false;
-        }
-        q += 1;
-    }
-    true
-}
-
-// Refusal 12, of the rows: whether p_k is from k to n at every step k.
-pub fn rows_in_range(n: usize, rows: &[usize]) -> bool
-    ensures { λ r. ⌜ r ≡ rowsInRange n 1 (now (rows .entry)) ⌝ }
-{
-    let mut k = 0;
-    while k < rows.len() {
-        let row = rows[k];
-        k += 1;
-        if row < k {
-            return false;
-        }
-        if n < row {
-            return false;
-        }
-    }
-    true
-}
-
 // Where the slot of a subscript lies: list k's slots start at place k-1's number, in the order of its subscripts.
-fn slot_of(subs: &[usize], starts: &[usize], slots: &[usize], k: usize, x: usize) -> usize
+fn slot_of(subs: &[usize], starts: &[usize], slots: &[usize], k: usize, x: usize) -> SlotPlace
     requires { ⌜ SlotAsks (now subs) (now starts) (now slots) k x ⌝ }
-    ensures { λ r. ⌜ ((w : SlotAsks (now (subs .entry)) (now (starts .entry)) (now (slots .entry)) k x) → r ≡ slotsOf (w .s) (w .side) (k - 1) + indexOf x (kept (w .s) (w .side) k)) ⌝ }
+    ensures { λ r. ⌜ ((w : SlotAsks (now (subs .entry)) (now (starts .entry)) (now (slots .entry)) k x) → r .0 ≡ slotsOf (w .s) (w .side) (k - 1) + indexOf x (kept (w .s) (w .side) k)) ⌝ }
 {
     let from = slots[k - 1];
     let end = slots[k];
     let open = starts[k - 1];
     let close = open + (end - from);
-    from + place_of(&subs[open..close], x)
+    let at = from + place_of(&subs[open..close], x);
+    SlotPlace(at)
 }
 
 // The values of row i: those before its diagonal go to L, into the lists of their columns, those behind it to U, into the row's own list.
@@ -122,12 +47,14 @@ fn load_row(
         let value = values[q];
         q += 1;
         if j < i {
-            let to = slot_of(l_subs, l_starts, l_slots, j, i);
+            let slot = slot_of(l_subs, l_starts, l_slots, j, i);
+            let to = slot.0;
             l[to] = value;
             continue;
         }
         if i < j {
-            let to = slot_of(u_subs, u_starts, u_slots, i, j);
+            let slot = slot_of(u_subs, u_starts, u_slots, i, j);
+            let to = slot.0;
             u[to] = value;
             continue;
         }

@@ -12,11 +12,11 @@ use Rattle.foundation.specs.RunCall.{Ran}
 use Rattle.foundation.specs.Printing.{spaced, hexBits}
 use Rattle.foundation.specs.Text.{ascii}
 
--- a word and numbers: the form of `planLine`, `rowsLine`, `updatesLine` and `refusedLine`
+-- A word and numbers: the form of `planLine`, `rowsLine`, `updatesLine` and `refusedLine` (document 01, "Fields worked through").
 unfoldable pub numbersLine : List ℕ → List ℕ → List ℕ
 numbersLine word numbers = word ++ chain spaced numbers ++ ascii "\n"
 
--- `x`: a row and the bits of its number
+-- Document 01, "Fields worked through": "x: row, bits in hexadecimal": `solutionLine` by the number itself.
 unfoldable pub valueLine : ℕ → Float → List ℕ
 valueLine row x = ascii "x" ++ spaced row ++ ascii " " ++ hexBits (bitsOf x) ++ ascii "\n"
 
@@ -25,7 +25,7 @@ unfoldable pub valueLines : ℕ → List Float → List ℕ
 valueLines row [] = []
 valueLines row (x ∷ xs) = valueLine row x ++ valueLines (suc row) xs
 
--- the counts of a plan in the order of its line
+-- "Plan: n, entries, L and U subscripts, L and U slots, reads": the counts of a plan in the order of its line.
 unfoldable pub inOrder : Counts → List ℕ
 inOrder c = c .n ∷ c .entries ∷ c .lowerSubscripts ∷ c .upperSubscripts ∷ c .lowerSlots ∷ c .upperSlots ∷ c .reads ∷ []
 

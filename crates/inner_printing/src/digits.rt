@@ -7,6 +7,7 @@ ghost use Rattle.foundation.specs.Numbers.{bitsOf};
 ghost use Rattle.foundation.specs.Printing.{decimal, hexDigit, hexDigits};
 ghost use Rattle.inner_printing.specs.Appended.{Appended};
 
+// One byte.
 pub fn put_byte(out: &mut [u8], at: usize, byte: u8) -> usize
     requires { ⌜ at < length (now out) ⌝ }
     ensures { λ r. ⌜ Appended (now (out .entry)) at (byte ∷ []) (now (out .exit)) r ⌝ }
@@ -15,6 +16,7 @@ pub fn put_byte(out: &mut [u8], at: usize, byte: u8) -> usize
     at + 1
 }
 
+// The bytes of a word.
 pub fn put_word(out: &mut [u8], at: usize, word: &[u8]) -> usize
     requires { ⌜ at + length (now word) ≤ length (now out) ⌝ }
     ensures { λ r. ⌜ Appended (now (out .entry)) at (now (word .entry)) (now (out .exit)) r ⌝ }
@@ -27,6 +29,7 @@ pub fn put_word(out: &mut [u8], at: usize, word: &[u8]) -> usize
     at + i
 }
 
+// 0 to 9.
 fn digit(d: usize) -> u8
     requires { ⌜ d < 10 ⌝ }
     ensures { λ r. ⌜ r ≡ 48 + d ⌝ }

@@ -16,6 +16,7 @@ fn put_spaced(out: &mut [u8], at: usize, n: usize) -> usize
     digits::put_decimal(out, end, n)
 }
 
+// Numbers, each behind a space.
 fn put_numbers(out: &mut [u8], at: usize, numbers: &[usize]) -> usize
     requires { ⌜ at + 21 * length (now numbers) ≤ length (now out) ⌝ }
     ensures { λ r. ⌜ Appended (now (out .entry)) at (chain spaced (now (numbers .entry))) (now (out .exit)) r × (r ≤ at + 21 * length (now (numbers .entry))) ⌝ }

@@ -9,13 +9,15 @@ use lib.Seq.{take-suc-set}
 use borrow.Author.Tests.{lt-ltb, le-ltb}
 use Rattle.foundation.specs.Answer.{Answer, refused, granted, refuseIf}
 use Rattle.foundation.specs.Job.{Reading, Next, more, over, Job, jobOf, next, reading, nothingRead, maxJobBytes, readJob}
-use Rattle.inner_reading.specs.declared.progress.Progress.{Progress}
-use Rattle.inner_reading.specs.declared.progress.Turn.the-variants.{More, Refused, Done}
+use Rattle.inner_commands.specs.declared.Progress.{Progress}
+use Rattle.inner_commands.specs.declared.Turn.the-variants.{More, Refused, Done}
 use Rattle.inner_reading.specs.declared.Ending.the-variants as Ending
 use Rattle.inner_reading.specs.declared.JobRead.the-variants as JobRead
-use Rattle.inner_reading.specs.Read.{JobStores, Sized, jobIn, readOf, Bounded}
-use Rattle.inner_reading.specs.Progress.{Going, Ended, state, withEnds, nextOf, answerOf, Onward}
-use Rattle.inner_reading.proofs.Bounds.{false-true}
+use Rattle.inner_reading.specs.Read.{jobIn, readOf, Bounded}
+use Rattle.inner_commands.specs.Stores.{JobStores, Sized}
+use Rattle.inner_commands.specs.Progress.{state, withEnds, nextOf, Onward}
+use Rattle.inner_reading.specs.Ending.{Going, Ended, answerOf}
+use Rattle.inner_commands.proofs.Bounds.{false-true}
 
 -- stores of the same lengths
 pub record SameSizes (now was : JobStores) : Type 0 where

@@ -1,6 +1,2 @@
 -- Laws of reading a job.
-pub mod Bytes
-pub mod Commanding
-pub mod Bounds
-pub mod Placing
 pub mod Course

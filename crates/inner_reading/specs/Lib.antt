@@ -1,3 +1,3 @@
 -- What reading a job leaves.
 pub mod Read
-pub mod Progress
+pub mod Ending

@@ -1,33 +1,13 @@
 -- A job in the stores: what callers see of reading.
-use mathlib.Core.List.{List}
 use Prim.Native.Nat.{ℕ, suc, _≤_}
-use lib.Ieee.{Float}
-use lib.ListN.{length, take}
+use lib.ListN.{take}
 use Rattle.foundation.specs.Answer.{Answer, refused, granted}
 use Rattle.foundation.specs.Job.{Job, choiceOf}
 use Rattle.foundation.specs.Pattern.{lent}
+pub use Rattle.inner_commands.specs.Stores.{JobStores, storesOf, Sized}
 use Rattle.inner_reading.specs.declared.Sizes.{Sizes}
 use Rattle.inner_reading.specs.declared.JobRead.{JobRead}
 use Rattle.inner_reading.specs.declared.JobRead.the-variants.{Refused, Read}
-
--- the five stores that a job is read into
-pub record JobStores : Type 0 where
-  pub starts : List ℕ
-  pub columns : List ℕ
-  pub values : List Float
-  pub right : List Float
-  pub rows : List ℕ
-
-abbrev pub storesOf : (starts columns : List ℕ) (values right : List Float) (rows : List ℕ) → JobStores
-storesOf starts columns values right rows = record { starts = starts; columns = columns; values = values; right = right; rows = rows }
-
--- they have room for every job: an entry takes 11 bytes of at most 16,384
-pub record Sized (s : JobStores) : Type 0 where
-  pub starts-room : 129 ≤ length (s .starts)
-  pub columns-room : 1489 ≤ length (s .columns)
-  pub values-room : 1489 ≤ length (s .values)
-  pub right-room : 128 ≤ length (s .right)
-  pub rows-room : 128 ≤ length (s .rows)
 
 -- the job that the filled parts of the stores are
 unfoldable pub jobIn : Sizes → JobStores → Job

@@ -1,21 +1,17 @@
 // From a job's bytes to its pattern, values, right side and row list, or the refusal that the bytes earn: 18 first, then byte by byte 1 at N and 15 to 17.
 //
-// Only this crate knows the grammar: `operands` has the numbers in their bytes, `commands` what each command does, `standing` which command may stand where. Callers see the
-// sizes of what was read and the stores.
+// Only this crate and those below it know the grammar: `inner_operands` has the numbers in their bytes, `inner_commands` what each command does, `inner_standing` which command may
+// stand where. Callers see the sizes of what was read and the stores.
 ghost use mathlib.Core.Path.{_≡_};
 ghost use Prim.Native.Nat.{suc, _≤_};
 ghost use lib.ListN.{length};
 ghost use Rattle.foundation.specs.Job.{reading, nothingRead, readJob};
-ghost use Rattle.inner_reading.specs.Read.{storesOf, Sized, readOf, Bounded};
-ghost use Rattle.inner_reading.specs.Progress.{answerOf, Ended};
-
-mod commands;
-mod operands;
-mod progress;
-mod standing;
-
-use progress::Progress;
-use progress::Turn;
+ghost use Rattle.inner_commands.specs.Stores.{storesOf, Sized};
+ghost use Rattle.inner_reading.specs.Read.{readOf, Bounded};
+ghost use Rattle.inner_reading.specs.Ending.{answerOf, Ended};
+use inner_commands::Progress;
+use inner_commands::Turn;
+use inner_standing::read_next;
 
 // How much a job has brought: n rows with their right sides, n + 1 starts, so many entries with their values, and the rows that P has named (none or n).
 pub struct Sizes {
@@ -60,7 +56,7 @@ fn read_commands(
         chosen: 0,
     };
     loop {
-        let turn = standing::read_next(job, p, starts, columns, values, right, rows);
+        let turn = read_next(job, p, starts, columns, values, right, rows);
         match turn {
             Turn::More(q) => {
                 p = q;

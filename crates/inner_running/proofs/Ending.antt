@@ -10,7 +10,8 @@ use Rattle.answers.specs.declared.Extent.{Extent}
 use Rattle.answers.specs.declared.Extent.the-variants.{Whole, Cut}
 use Rattle.inner_slots.specs.Handing.{SolveAsks, SolveLeaves}
 use Rattle.inner_slots.specs.declared.SolveEnd.the-variants.{Solved, NotFiniteAt as UnsolvedAt}
-use Rattle.inner_running.specs.Running.{isWhole, FinishAsks, FinishLeaves}
+use Rattle.inner_asking.specs.Asking.{isWhole}
+use Rattle.inner_running.specs.Running.{FinishAsks, FinishLeaves}
 use Rattle.inner_running.specs.declared.RunEnd.{RunEnd}
 use Rattle.inner_running.specs.declared.RunEnd.the-variants.{All, NoPivotAt, NotFiniteAt}
 

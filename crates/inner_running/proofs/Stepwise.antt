@@ -22,7 +22,8 @@ use Rattle.inner_slots.specs.Index.{Layout}
 use Rattle.inner_slots.specs.Shows.{Stands}
 use Rattle.inner_slots.specs.declared.StepEnd.{StepEnd}
 use Rattle.inner_slots.specs.declared.StepEnd.the-variants.{Went, NoPivot, NotFinite}
-use Rattle.inner_running.specs.Running.{choiceOf, StepsAsk, Reached, StepsLeave}
+use Rattle.inner_asking.specs.Asking.{choiceOf}
+use Rattle.inner_running.specs.Running.{StepsAsk, Reached, StepsLeave}
 use Rattle.inner_running.proofs.Course.{goes-on, lacks-pivot, not-sound, stays-stopped}
 
 -- ---- pivot rows

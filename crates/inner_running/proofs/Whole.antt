@@ -27,7 +27,8 @@ use Rattle.inner_slots.specs.Handing.{Clear, LoadAsks, LoadLeaves, SolveAsks}
 use Rattle.inner_slots.specs.Index.{Layout}
 use Rattle.inner_slots.specs.Shows.{Shows, ShowsAll, Stands}
 use Rattle.inner_slots.proofs.Exchange.{outside-before}
-use Rattle.inner_running.specs.Running.{choiceOf, StepsAsk, StepsLeave, Reached, FinishAsks, FinishLeaves, RunAsks, Finishes, EndsAs}
+use Rattle.inner_asking.specs.Asking.{choiceOf}
+use Rattle.inner_running.specs.Running.{StepsAsk, StepsLeave, Reached, FinishAsks, FinishLeaves, RunAsks, Finishes, EndsAs}
 use Rattle.inner_running.specs.declared.RunEnd.{RunEnd}
 use Rattle.inner_running.specs.declared.RunEnd.the-variants.{All, NoPivotAt, NotFiniteAt}
 

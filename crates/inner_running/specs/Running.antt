@@ -1,5 +1,5 @@
 -- What the steps of a run, one after the other, and a whole run take for granted, and what they leave.
-use mathlib.Core.Bool.{Bool, true, false}
+use mathlib.Core.Bool.{Bool, true}
 use mathlib.Core.List.{List, [], map}
 use mathlib.Core.Path.{_≡_}
 use Prim.Native.Nat.{ℕ, suc, _+_, _≤_}
@@ -10,21 +10,16 @@ use Rattle.lists.specs.Sets.{upto}
 use Rattle.foundation.specs.Numbers.{finite}
 use Rattle.foundation.specs.Pattern.{Pattern, patternOf}
 use Rattle.foundation.specs.Plan.{Planning}
-use Rattle.foundation.specs.Reference.{Choice, largest, listed, Going, Course, going, stopped, noPivot, notFinite, running, ended, reference}
+use Rattle.foundation.specs.Reference.{Choice, Going, Course, going, stopped, noPivot, notFinite, running, ended, reference}
 use Rattle.foundation.specs.RunCall.{choiceFits, orderFits, valueAt, rightAt}
 use Rattle.answers.specs.Runs.{extentOf}
 use Rattle.answers.specs.declared.Extent.{Extent}
-use Rattle.answers.specs.declared.Extent.the-variants.{Whole, Cut}
+use Rattle.inner_asking.specs.Asking.{choiceOf}
 use Rattle.inner_slots.specs.Handing.{Clear, LoadAsks, SolveAsks}
 use Rattle.inner_slots.specs.Index.{Layout}
 use Rattle.inner_slots.specs.Shows.{ShowsAll, Stands}
 use Rattle.inner_running.specs.declared.RunEnd.{RunEnd}
 use Rattle.inner_running.specs.declared.RunEnd.the-variants.{All, NoPivotAt, NotFiniteAt}
-
--- Document 01, "Elimination": the pivot row is the one "with the largest magnitude in column k (..); or row p_k of a given list".
-unfoldable pub choiceOf : Bool → List ℕ → Choice
-choiceOf false rows = largest
-choiceOf true rows = listed rows
 
 -- ---- the steps
 
@@ -65,11 +60,6 @@ StepsLeave (NotFiniteAt k) count byList rows lSubs lStarts lSlots uSubs uStarts 
     running (choiceOf byList rows) (w .n) (w .n) (w .start) count ≡ stopped notFinite k
 
 -- ---- the end of a run
-
--- "A run may be cut to its first s steps, without back substitution".
-unfoldable pub isWhole : Extent → Bool
-isWhole Whole = true
-isWhole (Cut s) = false
 
 -- A run that came through its steps can be solved; one that stopped asks for nothing.
 abbrev pub FinishAsks : RunEnd → (n : ℕ) (subs starts slots : List ℕ) (u d x : List Float) → Type 0

@@ -1,13 +1,10 @@
 // The run on a plan that is known to be the pattern's: the steps one after the other, and loading, steps and back substitution in turn.
-ghost use mathlib.Core.Bool.{true};
-ghost use mathlib.Core.Path.{_≡_};
-ghost use Prim.Native.Nat.{_≤_};
-ghost use lib.ListN.{length};
-ghost use Rattle.foundation.specs.Reference.{stepsOf};
-ghost use Rattle.inner_slots.specs.Handing.{asked, Clear, SolveAsks};
-ghost use Rattle.answers.specs.Runs.{extentOf};
-ghost use Rattle.inner_running.specs.Running.{choiceOf, isWhole, StepsAsk, StepsLeave, FinishAsks, FinishLeaves, RunAsks, RunLeaves};
+ghost use Rattle.inner_slots.specs.Handing.{Clear};
+ghost use Rattle.inner_running.specs.Running.{StepsAsk, StepsLeave, FinishAsks, FinishLeaves, RunAsks, RunLeaves};
 use answers::Extent;
+use inner_asking::row_asked;
+use inner_asking::solves;
+use inner_asking::steps_of;
 use inner_loading::load;
 use inner_slots::SolveEnd;
 use inner_slots::StepEnd;
@@ -22,14 +19,6 @@ pub enum RunEnd {
     NoPivotAt(usize),
     // 14 at this step, or row in back substitution
     NotFiniteAt(usize),
-}
-
-// The row that is asked for at step k: that of the list, or 0 where the largest entry decides.
-fn row_asked(by_list: bool, rows: &[usize], k: usize) -> usize
-    requires { ⌜ (1 ≤ k) × («by_list» ≡ true → k ≤ length (now rows)) ⌝ }
-    ensures { λ r. ⌜ r ≡ asked (choiceOf «by_list» (now (rows .entry))) k ⌝ }
-{
-    if by_list { rows[k - 1] } else { 0 }
 }
 
 // Steps 1 to count, each with its pivot row noted, until one finds no pivot row or something that is not finite.
@@ -89,26 +78,6 @@ pub fn run_steps(
         }
     }
     RunEnd::All(updates)
-}
-
-// How many steps a run has.
-fn steps_of(extent: Extent, n: usize) -> usize
-    ensures { λ r. ⌜ r ≡ stepsOf (extentOf extent) n ⌝ }
-{
-    match extent {
-        Extent::Whole => n,
-        Extent::Cut(steps) => steps,
-    }
-}
-
-// Whether a run is solved: a whole one is, a cut one, to n steps too, is not.
-fn solves(extent: Extent) -> bool
-    ensures { λ r. ⌜ r ≡ isWhole extent ⌝ }
-{
-    match extent {
-        Extent::Whole => true,
-        Extent::Cut(_) => false,
-    }
 }
 
 // The end of a run: one that came through its steps goes on to back substitution, if it is whole.

@@ -30,17 +30,12 @@ use Rattle.inner_slots.proofs.Flags.{flagged-more}
 use Rattle.inner_slots.proofs.Mapped.{map-cong}
 use Rattle.inner_slots.proofs.Places.{ascending-at}
 use Rattle.inner_slots.proofs.Shows.{part, slots-step, part-inside, shows-part, shows-write, shows-same}
-use Rattle.inner_sides.specs.Stretches.{UpTo, reducedAll, gathered, Below}
-use Rattle.inner_sides.specs.Crossing.{Crossing, Shared}
+use Rattle.inner_stretches.specs.Stretches.{UpTo, reducedAll, gathered, Below}
+use Rattle.inner_stretches.specs.Crossing.{Crossing, Shared}
 use Rattle.inner_sides.specs.Heads.{HeadsAsk, HeadsLeave}
-use Rattle.inner_sides.proofs.Reducing.{length-gathered}
-use Rattle.inner_sides.proofs.Crossings.{shared-cell}
-use Rattle.inner_sides.proofs.Within.{ascending-drop, drop-from, in-drop, not-before, member-snoc, member-snoc-other}
-
--- one more place
-pub up-to-more : (i q : ℕ) (list : List ℕ) → UpTo i q list → getD list q 0 ≤ i → UpTo i (q + 1) list
-unfolding UpTo
-up-to-more i q list h l t m = elim (decLt t q) [ yes r ↦ h t r | no r ↦ let e : t ≡ q = omega arith in rw e l ]
+use Rattle.inner_stretches.proofs.Reducing.{length-gathered}
+use Rattle.inner_stretches.proofs.Crossings.{shared-cell}
+use Rattle.inner_stretches.proofs.Within.{ascending-drop, drop-from, in-drop, not-before, member-snoc, member-snoc-other}
 
 -- the first s members are no greater than any head from t on
 unfoldable pub Under : ℕ → ℕ → List ℕ → List ℕ → Type 0

@@ -9,9 +9,9 @@ use lib.ListN.{length, getD, take, length-map}
 use Rattle.foundation.specs.Shown.{atSide}
 use Rattle.foundation.specs.Subscripts.{kept}
 use Rattle.inner_slots.specs.Handing.{Clear}
-use Rattle.inner_sides.specs.Stretches.{Below}
+use Rattle.inner_stretches.specs.Stretches.{Below}
 use Rattle.inner_sides.specs.Heads.{HeadsAsk, HeadsLeave}
-use Rattle.inner_sides.specs.Work.{ClearBut, Spread, Dense}
+use Rattle.inner_stretches.specs.Work.{ClearBut, Spread, Dense}
 use Rattle.inner_sides.specs.Side.{SideAsks, SideLeaves}
 use Rattle.inner_sides.proofs.Lending.{countOf, ownOf, partOf, Numbers}
 use Rattle.inner_sides.proofs.Lending as lent

@@ -24,9 +24,9 @@ use Rattle.inner_slots.specs.Index.{Grid}
 use Rattle.inner_slots.specs.Shows.{InSlots}
 use Rattle.inner_slots.proofs.Grid.{reduced-commutes, above, slot-upper, slot-lower, no-slot-upper, no-slot-lower, row-stays, column-stays}
 use Rattle.inner_slots.proofs.Mapped.{map-cong, getD-mapped}
-use Rattle.inner_sides.specs.Stretches.{gathered}
+use Rattle.inner_stretches.specs.Stretches.{gathered}
 use Rattle.inner_sides.specs.Heads.{Reduction}
-use Rattle.inner_sides.specs.Work.{Dense}
+use Rattle.inner_stretches.specs.Work.{Dense}
 use Rattle.inner_sides.specs.Side.{divided}
 
 module _ (k : ℕ) (square : Square Float) where

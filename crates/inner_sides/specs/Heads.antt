@@ -16,7 +16,7 @@ use Rattle.foundation.specs.Subscripts.{kept}
 use Rattle.inner_slots.specs.Flags.{flagged, soundList}
 use Rattle.inner_slots.specs.Index.{Indexed}
 use Rattle.inner_slots.specs.Shows.{Shows}
-use Rattle.inner_sides.specs.Stretches.{gathered}
+use Rattle.inner_stretches.specs.Stretches.{gathered}
 
 -- What a side's part of a step makes of a square: off the list of each head, its factor times what `dense` has. Only at the members of `over`
 -- need `dense` be other than zero.

@@ -17,7 +17,7 @@ use Rattle.inner_slots.specs.Flags.{flagged, soundList}
 use Rattle.inner_slots.specs.Index.{Indexed}
 use Rattle.inner_slots.specs.Shows.{Shows}
 use Rattle.inner_sides.specs.Heads.{Reduction}
-use Rattle.inner_sides.specs.Work.{Dense}
+use Rattle.inner_stretches.specs.Work.{Dense}
 
 -- The square with the multipliers of step k in column k, nothing taken off yet.
 unfoldable pub divided : ℕ → Square Float → Square Float

@@ -7,20 +7,23 @@ ghost use Rattle.lists.specs.Functions.{all};
 ghost use Rattle.lists.specs.Sets.{Ascending, member};
 ghost use Rattle.foundation.specs.Numbers.{isZero, finite};
 ghost use Rattle.inner_slots.specs.Flags.{flagged};
-ghost use Rattle.inner_sides.specs.Stretches.{reducedAll, gathered};
-ghost use Rattle.inner_sides.specs.Crossing.{Crossing, Shared};
+ghost use Rattle.inner_stretches.specs.Stretches.{reducedAll, gathered};
+ghost use Rattle.inner_stretches.specs.Crossing.{Crossing, Shared};
 ghost use Rattle.inner_sides.specs.Heads.{HeadsAsk, HeadsLeave};
-use crate::first_above;
-use crate::stretch::reduce_from;
+use answers::SubscriptPlace;
 use inner_slots::place_of;
+use inner_stretches::first_above;
+use inner_stretches::reduce_from;
 
 // Where member x of a list stands. Lists share their subscripts: if the cell that x was read from lies inside this list, its place is known.
-pub fn standing(own: &[usize], start: usize, cell: usize, x: usize) -> usize
-    requires { ⌜ Ascending 0 (now own) × (member x (now own) ≡ true) × Shared (now own) start cell x ⌝ }
+pub fn standing(own: &[usize], start: SubscriptPlace, cell: SubscriptPlace, x: usize) -> usize
+    requires { ⌜ Ascending 0 (now own) × (member x (now own) ≡ true) × Shared (now own) (start .0) (cell .0) x ⌝ }
     ensures { λ r. ⌜ (r < length (now (own .entry))) × (getD (now (own .entry)) r 0 ≡ x) ⌝ }
 {
-    if start <= cell {
-        let o = cell - start;
+    let from = start.0;
+    let at = cell.0;
+    if from <= at {
+        let o = at - from;
         if o < own.len() {
             return o;
         }
@@ -36,11 +39,11 @@ pub fn reduce_list(
     values: &[f64],
     dense: &[f64],
     m: f64,
-    start: usize,
-    cell: usize,
+    start: SubscriptPlace,
+    cell: SubscriptPlace,
     flag: usize,
 ) -> usize
-    requires { ⌜ (length (now y) ≡ length (now own)) × (isZero m ≡ false) × Crossing (now own) (now over) (now values) (now dense) × (0 < length (now over)) × (all finite (now y) ≡ true) × Shared (now own) start cell (getD (now over) 0 0) ⌝ }
+    requires { ⌜ (length (now y) ≡ length (now own)) × (isZero m ≡ false) × Crossing (now own) (now over) (now values) (now dense) × (0 < length (now over)) × (all finite (now y) ≡ true) × Shared (now own) (start .0) (cell .0) (getD (now over) 0 0) ⌝ }
     ensures { λ r. ⌜ (now (y .exit) ≡ reducedAll m (gathered (now (dense .entry)) (now (own .entry))) (now (y .entry))) × (r ≡ flagged flag (all finite (now (y .exit)))) ⌝ }
 {
     let o = standing(own, start, cell, over[0]);
@@ -59,11 +62,11 @@ pub fn reduce_lists(
     over: &[usize],
     values: &[f64],
     dense: &[f64],
-    opening: usize,
+    opening: SubscriptPlace,
     flag: usize,
 ) -> usize
-    requires { ⌜ HeadsAsk (now y) (now subs) (now starts) (now slots) (now heads) (now over) (now factors) (now values) (now dense) opening ⌝ }
-    ensures { λ r. ⌜ ((w : HeadsAsk (now (y .entry)) (now (subs .entry)) (now (starts .entry)) (now (slots .entry)) (now (heads .entry)) (now (over .entry)) (now (factors .entry)) (now (values .entry)) (now (dense .entry)) opening) → HeadsLeave _ _ _ _ _ _ _ _ _ _ flag (now (y .exit)) r w) ⌝ }
+    requires { ⌜ HeadsAsk (now y) (now subs) (now starts) (now slots) (now heads) (now over) (now factors) (now values) (now dense) (opening .0) ⌝ }
+    ensures { λ r. ⌜ ((w : HeadsAsk (now (y .entry)) (now (subs .entry)) (now (starts .entry)) (now (slots .entry)) (now (heads .entry)) (now (over .entry)) (now (factors .entry)) (now (values .entry)) (now (dense .entry)) (opening .0)) → HeadsLeave _ _ _ _ _ _ _ _ _ _ flag (now (y .exit)) r w) ⌝ }
 {
     let mut bad = flag;
     let mut s = 0;
@@ -84,7 +87,7 @@ pub fn reduce_lists(
         let b = starts[i - 1];
         let f = b + (e - a);
         let z = over.len();
-        let cell = opening + s;
+        let cell = opening.0 + s;
         bad = reduce_list(
             &mut y[a..e],
             &subs[b..f],
@@ -92,8 +95,8 @@ pub fn reduce_lists(
             &values[s..z],
             dense,
             m,
-            b,
-            cell,
+            SubscriptPlace(b),
+            SubscriptPlace(cell),
             bad,
         );
     }

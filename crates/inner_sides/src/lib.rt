@@ -1,30 +1,13 @@
 // A side's part of a step of the elimination: off every list of the side that the step reaches, a factor times the numbers of list k. Rows
 // (U) and columns (L) are one function, since the order of a product does not show.
-ghost use mathlib.Core.Path.{_≡_};
-ghost use Prim.Native.Nat.{_≤_, _<_};
-ghost use lib.ListN.{length, getD};
 ghost use Rattle.inner_slots.specs.Handing.{Clear};
-ghost use Rattle.inner_sides.specs.Stretches.{UpTo};
 ghost use Rattle.inner_sides.specs.Side.{SideAsks, SideLeaves};
+use answers::SubscriptPlace;
+use inner_stretches::copy_in;
+use inner_stretches::spread;
+use inner_stretches::wipe;
 
 mod crossing;
-mod stretch;
-mod work;
-
-// The first place from s on whose member is above i, the list's length where there is none.
-pub fn first_above(list: &[usize], s: usize, i: usize) -> usize
-    requires { ⌜ (s ≤ length (now list)) × UpTo i s (now list) ⌝ }
-    ensures { λ r. ⌜ (r ≤ length (now (list .entry))) × UpTo i r (now (list .entry)) × (r < length (now (list .entry)) → i < getD (now (list .entry)) r 0) ⌝ }
-{
-    let mut q = s;
-    while q < list.len() {
-        if i < list[q] {
-            return q;
-        }
-        q += 1;
-    }
-    q
-}
 
 // One side of step k: `heads` are the lists reached, `factors` their factors; `copy` takes list k's numbers, `dense` the same by subscript,
 // and is clear again afterwards. Returns the step's flag.
@@ -49,8 +32,8 @@ pub fn reduce_side(
     let b = starts[k - 1];
     let f = b + c;
     let own = &subs[b..f];
-    work::copy_in(copy, &y[a..e]);
-    work::spread(dense, own, &copy[0..c]);
+    copy_in(copy, &y[a..e]);
+    spread(dense, own, &copy[0..c]);
     let bad = crossing::reduce_lists(
         y,
         subs,
@@ -61,9 +44,9 @@ pub fn reduce_side(
         own,
         &copy[0..c],
         dense,
-        b,
+        SubscriptPlace(b),
         flag,
     );
-    work::wipe(dense, own);
+    wipe(dense, own);
     bad
 }

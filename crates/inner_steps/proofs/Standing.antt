@@ -27,7 +27,7 @@ use Rattle.inner_slots.specs.declared.StepEnd.the-variants.{Went}
 use Rattle.inner_slots.proofs.Exchange.{outside-before, outside-after, held-next, pivot-listed, exchanged-outside}
 use Rattle.inner_slots.proofs.Grid.{no-slot-lower}
 use Rattle.inner_slots.proofs.Sound.{kept-next, right-next}
-use Rattle.inner_exchange.specs.Pivot.{PivotAsks, PivotLeaves}
+use Rattle.inner_choosing.specs.Pivot.{PivotAsks, PivotLeaves}
 use Rattle.inner_sides.proofs.Lending.{ownOf, partOf, Numbers, own-is, part-is, numbers}
 use Rattle.inner_steps.specs.Bringing.{BringAsks}
 use Rattle.inner_steps.specs.Eliminating.{ElimAsks, ElimLeaves}

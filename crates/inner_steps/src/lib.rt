@@ -1,7 +1,7 @@
 // One step of the elimination: the pivot row found and brought to row k, then column k, the right side, the diagonal, the rows of U and the
 // columns of L. Nothing stops inside a step: what is not finite sets a flag, which is looked at once, at the step's end.
 ghost use Rattle.inner_slots.specs.Handing.{Clear, StepAsks, StepLeaves};
-use inner_exchange::pivot;
+use inner_choosing::pivot;
 use inner_slots::StepEnd;
 
 mod bringing;

@@ -26,8 +26,9 @@ use Rattle.inner_reading.specs.declared.Sizes.{Sizes}
 use Rattle.inner_reading.specs.declared.JobRead.{JobRead}
 use Rattle.inner_reading.specs.declared.JobRead.the-variants.{Refused, Read}
 use Rattle.inner_lending.specs.Lending.{jobPlan, JobRan}
-use Rattle.job.specs.declared.numbers.Told.{Told}
-use Rattle.job.specs.Answering.{jobFrom, toldOf, PlanMade}
+use Rattle.numbers.specs.Numbered.{toldOf}
+use Rattle.numbers.specs.declared.refusals.Told.{Told}
+use Rattle.job.specs.Answering.{jobFrom, PlanMade}
 use Rattle.job.proofs.Planned.{ran-is, counts-are}
 use Rattle.job.proofs.Ending.{went, finished, halted, pivots-shown, solution-shown}
 

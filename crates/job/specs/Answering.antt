@@ -3,23 +3,18 @@ use mathlib.Core.List.{List}
 use mathlib.Core.Path.{_≡_}
 use Prim.Native.Nat.{ℕ}
 use lib.Ieee.{Float}
-use Rattle.foundation.specs.Answer.{Answer, refused, granted}
+use Rattle.foundation.specs.Answer.{granted}
 use Rattle.foundation.specs.Job.{Job, choiceOf}
 use Rattle.foundation.specs.Pattern.{Lent, lent}
-use Rattle.foundation.specs.PlanCall.{Counts, PlanStores, planAnswer, planLeaves}
+use Rattle.foundation.specs.PlanCall.{PlanStores, planAnswer, planLeaves}
 use Rattle.foundation.specs.Printing.{jobRoom, blankStores}
 use Rattle.answers.specs.Answers.{countsIn}
 use Rattle.answers.specs.declared.PlanCounts.{PlanCounts}
 use Rattle.inner_lending.specs.Lending.{jobPlan}
-use Rattle.job.specs.declared.numbers.Told.{Told}
 
 -- the job of these lists
 unfoldable pub jobFrom : ℕ → (starts columns : List ℕ) (values right : List Float) (rows : List ℕ) → Job
 jobFrom n starts columns values right rows = record { pattern = lent n starts columns; values = values; right = right; choice = choiceOf rows }
-
--- a refusal of planning by its number and step
-unfoldable pub toldOf : Told → Answer Counts
-toldOf t = refused (t .number) (t .step)
 
 -- these counts and stores are the job's plan
 pub record PlanMade (p : Lent) (counts : PlanCounts) (stores : PlanStores) : Type 0 where

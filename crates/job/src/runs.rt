@@ -8,8 +8,6 @@ ghost use Rattle.answers.specs.Stores.{planStores};
 ghost use Rattle.inner_printing.specs.Appended.{Appended};
 ghost use Rattle.inner_lending.specs.Lending.{PlanSized, RunSized};
 ghost use Rattle.job.specs.Answering.{jobFrom, PlanMade};
-use crate::numbers::number_of;
-use crate::numbers::tell;
 use answers::PlanAnswer;
 use answers::PlanCounts;
 use answers::RunOutcome;
@@ -17,6 +15,8 @@ use inner_lending::plan_job;
 use inner_lending::run_job;
 use inner_printing::put_refused;
 use inner_printing::put_report;
+use numbers::number_of;
+use numbers::tell;
 
 // The run on a plan that was made, and its report or its refusal.
 fn put_run_in(
@@ -86,7 +86,7 @@ fn put_run_in(
     }
 }
 
-// The result stores of the run: 2,048 slots a side.
+// The same, in result stores of its own: 2,048 slots a side.
 fn put_run(
     out: &mut [u8],
     n: usize,
@@ -138,7 +138,7 @@ fn put_run(
     )
 }
 
-// The plan, then the run.
+// The plan, then the run on it; or the plan's refusal.
 fn put_plan_in(
     out: &mut [u8],
     n: usize,
@@ -195,7 +195,7 @@ fn put_plan_in(
     }
 }
 
-// The stores of the plan: 2,048 subscripts a side.
+// The same, in stores of its own for the plan: 2,048 subscripts a side.
 pub fn put_plan(
     out: &mut [u8],
     n: usize,

@@ -29,6 +29,7 @@ fn print_answer(bytes: &[u8]) {
     }
 }
 
+// One job, from standard input to standard output.
 fn main() {
     let mut store = [0u8; ROOM];
     match input::read_input(&mut store) {

@@ -19,15 +19,15 @@ pub enum TallyAnswer {
 }
 
 // The sum that the record is to hold, and the answer.
-struct Added {
-    sum: u32,
-    answer: TallyAnswer,
+pub struct Added {
+    pub sum: u32,
+    pub answer: TallyAnswer,
 }
 
 const LARGEST_SUM: usize = 4_294_967_295;
 
 // The sum with `updates` more, if it does not pass the largest. The room is found first, so that no sum wraps.
-fn sum_with(sum: u32, updates: usize) -> Added
+pub fn sum_with(sum: u32, updates: usize) -> Added
     ensures { λ r. ⌜ (r .sum ≡ tallyAfter sum updates) × (answerOf (r .answer) ≡ tallyAnswer sum updates) ⌝ }
 {
     let room = LARGEST_SUM - sum as usize;

@@ -26,13 +26,13 @@ shared-slice-read-p c =
     let w = c .before .before .before .before .before .before .before .before .before .before .before .before .before .pre in
     cell-in _ _ _ _ _ _ _ _ _ _ _ _ w _ _ _ (c .before .before .list-place .ensures)
 
+add-at : tie.Need-add-at
+add-at c =
+    let w = c .before .before .before .before .before .before .before .before .before .before .before .before .before .before .pre in
+    record { fits = omega (arith, slot-in _ _ _ _ _ _ _ _ _ _ _ _ w _ _ _ (c .before .before .before .list-place .ensures), c .before .before .before .before .before .before .before .before .before .before .before .before .before .before .good .1 .1 .1 .1 .1 .1 .1 .1 .0 .0) }
+
 sub-trade : tie.Need-sub-trade
 sub-trade c = search needs
-
-add-trade : tie.Need-add-trade
-add-trade c =
-    let w = c .before .before .before .before .before .before .before .before .before .before .before .before .before .before .before .before .pre in
-    record { fits = omega (arith, slot-in _ _ _ _ _ _ _ _ _ _ _ _ w _ _ _ (c .before .before .before .before .before .list-place .ensures), c .before .before .before .before .before .before .before .before .before .before .before .before .before .before .before .before .good .1 .1 .1 .1 .1 .1 .1 .1 .0 .0) }
 
 trade-requires : tie.Need-trade-requires
 trade-requires c κs =
@@ -70,33 +70,33 @@ trade-before-requires c κs =
     let w = c .before .before .before .before .before .before .before .before .before .before .before .before .before .before .before .before .before .before .before .before .before .before .before .before .before .pre in
     before-asks _ _ _ _ _ _ _ _ _ _ _ _ w _ (p-is _ _ _ _ _ _ _ _ _ _ _ _ w _ _ _ (c .before .before .before .before .before .before .before .before .before .before .before .before .before .before .list-place .ensures)) _ _ _ (c .before .before .before .before .before .before .before .before .before .before .before .before .before .before .list-place .ensures) _ _ (c .before .before .before .before .before .before .before .before .trade .ensures) _ _ _ (c .before .before .before .list-place2 .ensures)
 
-add-trade-2 : tie.Need-add-trade-2
-add-trade-2 c =
-    let w = c .before .before .before .before .before .before .before .before .before .before .before .before .before .before .before .before .before .before .before .before .before .before .before .before .before .before .before .before .before .before .before .pre in
-    record { fits = omega (arith, own-in _ _ _ _ _ _ _ _ _ _ _ _ w _ (p-is _ _ _ _ _ _ _ _ _ _ _ _ w _ _ _ (c .before .before .before .before .before .before .before .before .before .before .before .before .before .before .before .before .before .before .before .before .list-place .ensures)) _ _ _ (c .before .before .before .before .before .before .before .before .before .before .before .before .before .before .before .before .before .before .before .before .list-place .ensures) _ _ (c .before .before .before .before .before .before .before .before .before .before .before .before .before .before .trade .ensures) _ _ _ (c .before .before .before .before .before .before .before .before .before .list-place2 .ensures) _ _ _ (c .before .before .before .before .before .trade-before .ensures), c .before .before .before .before .before .trade-before .kept .1 .1 .1 .1 .1 .1 .1 .1 .0, c .before .before .before .before .before .before .before .before .before .before .before .before .before .before .before .before .before .before .before .before .before .before .before .before .before .before .before .before .before .before .before .good .1 .1 .1 .1 .1 .1 .1 .1 .1 .0 .0) }
+add-own : tie.Need-add-own
+add-own c =
+    let w = c .before .before .before .before .before .before .before .before .before .before .before .before .before .before .before .before .before .before .before .before .before .before .before .before .before .before .before .before .before .before .pre in
+    record { fits = omega (arith, own-in _ _ _ _ _ _ _ _ _ _ _ _ w _ (p-is _ _ _ _ _ _ _ _ _ _ _ _ w _ _ _ (c .before .before .before .before .before .before .before .before .before .before .before .before .before .before .before .before .before .before .before .list-place .ensures)) _ _ _ (c .before .before .before .before .before .before .before .before .before .before .before .before .before .before .before .before .before .before .before .list-place .ensures) _ _ (c .before .before .before .before .before .before .before .before .before .before .before .before .before .trade .ensures) _ _ _ (c .before .before .before .before .before .before .before .before .list-place2 .ensures) _ _ _ (c .before .before .before .before .trade-before .ensures), c .before .before .before .before .trade-before .kept .1 .1 .1 .1 .1 .1 .1 .1 .0, c .before .before .before .before .before .before .before .before .before .before .before .before .before .before .before .before .before .before .before .before .before .before .before .before .before .before .before .before .before .before .good .1 .1 .1 .1 .1 .1 .1 .1 .1 .0 .0) }
 
 sub-trade-2 : tie.Need-sub-trade-2
 sub-trade-2 c =
-    let w = c .before .before .before .before .before .before .before .before .before .before .before .before .before .before .before .before .before .before .before .before .before .before .before .before .before .before .before .before .before .before .before .before .pre in
-    omega (arith, w .low, p-above _ _ _ _ _ _ _ _ _ _ _ _ w _ (p-is _ _ _ _ _ _ _ _ _ _ _ _ w _ _ _ (c .before .before .before .before .before .before .before .before .before .before .before .before .before .before .before .before .before .before .before .before .before .list-place .ensures)))
+    let w = c .before .before .before .before .before .before .before .before .before .before .before .before .before .before .before .before .before .before .before .before .before .before .before .before .before .before .before .before .before .before .before .pre in
+    omega (arith, w .low, p-above _ _ _ _ _ _ _ _ _ _ _ _ w _ (p-is _ _ _ _ _ _ _ _ _ _ _ _ w _ _ _ (c .before .before .before .before .before .before .before .before .before .before .before .before .before .before .before .before .before .before .before .before .list-place .ensures)))
 
 trade-requires-2 : tie.Need-trade-requires-2
 trade-requires-2 c κs =
     let w = c .before .before .before .before .before .before .before .before .before .before .before .before .before .before .before .before .before .before .before .before .before .before .before .before .before .before .before .before .before .before .before .before .pre in
-    (own-in _ _ _ _ _ _ _ _ _ _ _ _ w _ (p-is _ _ _ _ _ _ _ _ _ _ _ _ w _ _ _ (c .before .before .before .before .before .before .before .before .before .before .before .before .before .before .before .before .before .before .before .before .before .list-place .ensures)) _ _ _ (c .before .before .before .before .before .before .before .before .before .before .before .before .before .before .before .before .before .before .before .before .before .list-place .ensures) _ _ (c .before .before .before .before .before .before .before .before .before .before .before .before .before .before .before .trade .ensures) _ _ _ (c .before .before .before .before .before .before .before .before .before .before .list-place2 .ensures) _ _ _ (c .before .before .before .before .before .before .trade-before .ensures), omega (arith, p-in _ _ _ _ _ _ _ _ _ _ _ _ w _ (p-is _ _ _ _ _ _ _ _ _ _ _ _ w _ _ _ (c .before .before .before .before .before .before .before .before .before .before .before .before .before .before .before .before .before .before .before .before .before .list-place .ensures)) _ _ _ (c .before .before .before .before .before .before .before .before .before .before .before .before .before .before .before .before .before .before .before .before .before .list-place .ensures) _ _ (c .before .before .before .before .before .before .before .before .before .before .before .before .before .before .before .trade .ensures) _ _ _ (c .before .before .before .before .before .before .before .before .before .before .list-place2 .ensures) _ _ _ (c .before .before .before .before .before .before .trade-before .ensures), p-above _ _ _ _ _ _ _ _ _ _ _ _ w _ (p-is _ _ _ _ _ _ _ _ _ _ _ _ w _ _ _ (c .before .before .before .before .before .before .before .before .before .before .before .before .before .before .before .before .before .before .before .before .before .list-place .ensures))))
+    (omega (arith, p-in _ _ _ _ _ _ _ _ _ _ _ _ w _ (p-is _ _ _ _ _ _ _ _ _ _ _ _ w _ _ _ (c .before .before .before .before .before .before .before .before .before .before .before .before .before .before .before .before .before .before .before .before .before .list-place .ensures)) _ _ _ (c .before .before .before .before .before .before .before .before .before .before .before .before .before .before .before .before .before .before .before .before .before .list-place .ensures) _ _ (c .before .before .before .before .before .before .before .before .before .before .before .before .before .before .before .trade .ensures) _ _ _ (c .before .before .before .before .before .before .before .before .before .before .list-place2 .ensures) _ _ _ (c .before .before .before .before .before .before .trade-before .ensures), p-above _ _ _ _ _ _ _ _ _ _ _ _ w _ (p-is _ _ _ _ _ _ _ _ _ _ _ _ w _ _ _ (c .before .before .before .before .before .before .before .before .before .before .before .before .before .before .before .before .before .before .before .before .before .list-place .ensures))), own-in _ _ _ _ _ _ _ _ _ _ _ _ w _ (p-is _ _ _ _ _ _ _ _ _ _ _ _ w _ _ _ (c .before .before .before .before .before .before .before .before .before .before .before .before .before .before .before .before .before .before .before .before .before .list-place .ensures)) _ _ _ (c .before .before .before .before .before .before .before .before .before .before .before .before .before .before .before .before .before .before .before .before .before .list-place .ensures) _ _ (c .before .before .before .before .before .before .before .before .before .before .before .before .before .before .before .trade .ensures) _ _ _ (c .before .before .before .before .before .before .before .before .before .before .list-place2 .ensures) _ _ _ (c .before .before .before .before .before .before .trade-before .ensures))
 
 list-place-requires-3 : tie.Need-list-place-requires-3
 list-place-requires-3 c κs =
     let w = c .before .before .before .before .before .before .before .before .before .before .before .before .before .before .before .before .before .before .before .before .before .before .before .before .before .before .before .before .before .before .before .before .before .before .before .before .before .pre in
     other-asks _ _ _ _ _ _ _ _ _ _ _ _ w _ (p-is _ _ _ _ _ _ _ _ _ _ _ _ w _ _ _ (c .before .before .before .before .before .before .before .before .before .before .before .before .before .before .before .before .before .before .before .before .before .before .before .before .before .before .list-place .ensures))
 
-add-seat : tie.Need-add-seat
-add-seat c =
+add-next : tie.Need-add-next
+add-next c =
     let w = c .before .before .before .before .before .before .before .before .before .before .before .before .before .before .before .before .before .before .before .before .before .before .before .before .before .before .before .before .before .before .before .before .before .before .before .before .before .before .pre in
     record { fits = omega (arith, cell-next _ _ _ _ _ _ _ _ _ _ _ _ w _ (p-is _ _ _ _ _ _ _ _ _ _ _ _ w _ _ _ (c .before .before .before .before .before .before .before .before .before .before .before .before .before .before .before .before .before .before .before .before .before .before .before .before .before .before .before .list-place .ensures)) _ _ _ (c .before .before .before .before .before .before .before .before .before .before .before .before .before .before .before .before .before .before .before .before .before .before .before .before .before .before .before .list-place .ensures) _ _ (c .before .before .before .before .before .before .before .before .before .before .before .before .before .before .before .before .before .before .before .before .before .trade .ensures) _ _ _ (c .before .before .before .before .before .before .before .before .before .before .before .before .before .before .before .before .list-place2 .ensures) _ _ _ (c .before .before .before .before .before .before .before .before .before .before .before .before .trade-before .ensures), c .before .before .before .before .before .before .before .before .before .before .before .before .before .before .before .before .before .before .before .before .before .before .before .before .before .before .before .before .before .before .before .before .before .before .before .before .before .before .good .1 .1 .1 .1 .1 .0 .0) }
 
-add-seat-2 : tie.Need-add-seat-2
-add-seat-2 c =
+add-next-2 : tie.Need-add-next-2
+add-next-2 c =
     let w = c .before .before .before .before .before .before .before .before .before .before .before .before .before .before .before .before .before .before .before .before .before .before .before .before .before .before .before .before .before .before .before .before .before .before .before .before .before .before .pre in
     record { fits = omega (arith, cell-next _ _ _ _ _ _ _ _ _ _ _ _ w _ (p-is _ _ _ _ _ _ _ _ _ _ _ _ w _ _ _ (c .before .before .before .before .before .before .before .before .before .before .before .before .before .before .before .before .before .before .before .before .before .before .before .before .before .before .before .list-place .ensures)) _ _ _ (c .before .before .before .before .before .before .before .before .before .before .before .before .before .before .before .before .before .before .before .before .before .before .before .before .before .before .before .list-place .ensures) _ _ (c .before .before .before .before .before .before .before .before .before .before .before .before .before .before .before .before .before .before .before .before .before .trade .ensures) _ _ _ (c .before .before .before .before .before .before .before .before .before .before .before .before .before .before .before .before .list-place2 .ensures) _ _ _ (c .before .before .before .before .before .before .before .before .before .before .before .before .trade-before .ensures), c .before .before .before .before .before .before .before .before .before .before .before .before .before .before .before .before .before .before .before .before .before .before .before .before .before .before .before .before .before .before .before .before .before .before .before .before .before .before .good .1 .1 .1 .1 .1 .0 .0) }
 
@@ -153,10 +153,10 @@ same-length : tie.Need-same-length
 same-length c = c .before .before .before .before .before .before .before .before .before .before .before .before .before .before .before .before .before .before .before .before .before .before .trade-before .kept .1 .1 .1 .1 .1 .1 .1 .0 ∙ c .before .before .before .before .before .before .before .before .before .before .before .before .before .before .before .before .before .before .before .before .before .before .before .before .before .before .before .before .before .before .before .trade .kept .1 .1 .0
 
 same-length-2 : tie.Need-same-length-2
-same-length-2 c = c .before .before .before .before .before .before .trade-beyond .kept .1 .1 .1 .1 .1 .1 .0 ∙ c .before .before .before .before .before .before .before .before .before .before .before .before .before .before .before .trade2 .kept .0 ∙ c .before .before .before .before .before .before .before .before .before .before .before .before .before .before .before .before .before .before .before .before .before .before .trade-before .kept .1 .1 .1 .1 .1 .1 .1 .1 .0
+same-length-2 c = c .before .before .before .before .before .before .trade-beyond .kept .1 .1 .1 .1 .1 .1 .0 ∙ c .before .before .before .before .before .before .before .before .before .before .before .before .before .before .before .trade2 .kept .1 .1 .0 ∙ c .before .before .before .before .before .before .before .before .before .before .before .before .before .before .before .before .before .before .before .before .before .before .trade-before .kept .1 .1 .1 .1 .1 .1 .1 .1 .0
 
 same-length-3 : tie.Need-same-length-3
-same-length-3 c = c .before .before .before .before .before .before .before .before .before .before .before .before .before .before .before .trade2 .kept .1 .1 .0 ∙ c .before .before .before .before .before .before .before .before .before .before .before .before .before .before .before .before .before .before .before .before .before .before .before .before .before .before .before .before .before .before .before .trade .kept .0
+same-length-3 c = c .before .before .before .before .before .before .before .before .before .before .before .before .before .before .before .trade2 .kept .0 ∙ c .before .before .before .before .before .before .before .before .before .before .before .before .before .before .before .before .before .before .before .before .before .before .before .before .before .before .before .before .before .before .before .trade .kept .0
 
 same-length-4 : tie.Need-same-length-4
 same-length-4 c = c .before .before .trade-within .kept .0
@@ -172,8 +172,8 @@ exchange-spec =
     add-cell
     mul-p
     shared-slice-read-p
+    add-at
     sub-trade
-    add-trade
     trade-requires
     list-place-requires-2
     mul-us
@@ -181,12 +181,12 @@ exchange-spec =
     part-us-start
     part-us-end
     trade-before-requires
-    add-trade-2
+    add-own
     sub-trade-2
     trade-requires-2
     list-place-requires-3
-    add-seat
-    add-seat-2
+    add-next
+    add-next-2
     seat-requires
     add-trade-beyond
     mul-trade-beyond

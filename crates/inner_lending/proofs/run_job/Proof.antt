@@ -1,65 +1,143 @@
 -- `run_job` meets its contract.
-use Rattle.inner_lending.proofs.Running.{none-chosen, some-chosen}
+use native.Mathlib.Omega.{arith}
+use Rattle.inner_lending.proofs.Running.{job-ran}
+use borrow.Author.Needs.{needs}
 use Rattle.inner_lending.proofs.run_job.Statement.{statement}
 use Rattle.inner_lending.proofs.run_job.Tie as tie
 
-run-by-largest-requires : tie.Need-run-by-largest-requires
-run-by-largest-requires c κs = c .before .before .before .before .before .before .before .before .before .before .before .before .before .before .before .before .before .before .before .before .before .before .pre
+add-more : tie.Need-add-more
+add-more c = search needs
+
+choice-for-requires : tie.Need-choice-for-requires
+choice-for-requires c κs = tt
+
+sub-run : tie.Need-sub-run
+sub-run c = omega arith
+
+part-row-heads-start : tie.Need-part-row-heads-start
+part-row-heads-start c = omega arith
+
+part-row-heads-end : tie.Need-part-row-heads-end
+part-row-heads-end c = omega (arith, c .before .before .before .before .before .before .before .before .before .before .before .before .before .before .before .before .before .before .before .before .before .before .pre .0)
+
+sub-run-2 : tie.Need-sub-run-2
+sub-run-2 c = omega arith
+
+part-row-links-start : tie.Need-part-row-links-start
+part-row-links-start c = omega arith
+
+part-row-links-end : tie.Need-part-row-links-end
+part-row-links-end c = search needs
+
+sub-run-3 : tie.Need-sub-run-3
+sub-run-3 c = omega arith
+
+part-set-heads-start : tie.Need-part-set-heads-start
+part-set-heads-start c = omega arith
+
+part-set-heads-end : tie.Need-part-set-heads-end
+part-set-heads-end c = search needs
+
+sub-run-4 : tie.Need-sub-run-4
+sub-run-4 c = omega arith
+
+part-set-links-start : tie.Need-part-set-links-start
+part-set-links-start c = omega arith
+
+part-set-links-end : tie.Need-part-set-links-end
+part-set-links-end c = search needs
+
+sub-run-5 : tie.Need-sub-run-5
+sub-run-5 c = omega arith
+
+part-list-start : tie.Need-part-list-start
+part-list-start c = omega arith
+
+part-list-end : tie.Need-part-list-end
+part-list-end c = search needs
+
+sub-run-6 : tie.Need-sub-run-6
+sub-run-6 c = omega arith
+
+part-spare-start : tie.Need-part-spare-start
+part-spare-start c = omega arith
+
+part-spare-end : tie.Need-part-spare-end
+part-spare-end c = search needs
+
+sub-run-7 : tie.Need-sub-run-7
+sub-run-7 c = omega arith
+
+part-copy-start : tie.Need-part-copy-start
+part-copy-start c = omega arith
+
+part-copy-end : tie.Need-part-copy-end
+part-copy-end c = search needs
+
+sub-run-8 : tie.Need-sub-run-8
+sub-run-8 c = omega arith
+
+part-dense-start : tie.Need-part-dense-start
+part-dense-start c = omega arith
+
+part-dense-end : tie.Need-part-dense-end
+part-dense-end c = omega (arith, c .before .before .before .before .before .before .before .before .before .before .before .before .before .before .before .before .before .before .before .before .before .before .before .before .before .before .before .before .before .pre .0)
+
+run-requires : tie.Need-run-requires
+run-requires c κs = search needs
 
 same-length : tie.Need-same-length
-same-length c = c .before .before .before .before .before .before .before .before .before .before .run-by-largest .kept .1 .1 .1 .1 .1 .1 .1 .1 .1 .1 .1 .1 .0
+same-length c = c .before .before .before .before .before .before .before .before .before .before .before .before .before .before .before .before .before .before .run .kept .1 .1 .1 .1 .1 .1 .1 .1 .1 .1 .1 .1 .1 .1 .1 .1 .0
 
 same-length-2 : tie.Need-same-length-2
-same-length-2 c = c .before .before .before .before .before .before .before .before .before .before .run-by-largest .kept .1 .1 .1 .1 .1 .1 .1 .1 .1 .1 .1 .1 .1 .0
+same-length-2 c = c .before .before .before .before .before .before .before .before .before .before .before .before .before .before .before .before .before .before .run .kept .1 .1 .1 .1 .1 .1 .1 .1 .1 .1 .1 .1 .1 .1 .1 .1 .1 .0
 
 same-length-3 : tie.Need-same-length-3
-same-length-3 c = c .before .before .before .before .before .before .before .before .before .before .run-by-largest .kept .1 .1 .1 .1 .1 .1 .1 .1 .1 .1 .1 .1 .1 .1 .0
+same-length-3 c = c .before .before .before .before .before .before .before .before .before .before .before .before .before .before .before .before .before .before .run .kept .1 .1 .1 .1 .1 .1 .1 .1 .1 .1 .1 .1 .1 .1 .1 .1 .1 .1 .0
 
 same-length-4 : tie.Need-same-length-4
-same-length-4 c = c .before .before .before .before .before .before .before .before .before .before .run-by-largest .kept .1 .1 .1 .1 .1 .1 .1 .1 .1 .1 .1 .1 .1 .1 .1 .0
+same-length-4 c = c .before .before .before .before .before .before .before .before .before .before .before .before .before .before .before .before .before .before .run .kept .1 .1 .1 .1 .1 .1 .1 .1 .1 .1 .1 .1 .1 .1 .1 .1 .1 .1 .1 .0
 
 same-length-5 : tie.Need-same-length-5
-same-length-5 c = c .before .before .before .before .before .before .before .before .before .before .run-by-largest .kept .1 .1 .1 .1 .1 .1 .1 .1 .1 .1 .1 .1 .1 .1 .1 .1 .0
+same-length-5 c = c .before .before .before .before .before .before .before .before .before .before .before .before .before .before .before .before .before .before .run .kept .1 .1 .1 .1 .1 .1 .1 .1 .1 .1 .1 .1 .1 .1 .1 .1 .1 .1 .1 .1 .0
 
 returns : tie.Need-returns
-returns c = rw (none-chosen (c .before .before .before .before .before .before .before .before .before .before .before .before .before .before .before .before .before .before .before .before .before .before .before .before .before .before .before .before .before .before .before .before .before .args .rows .now) (c .before .before .before .before .before .before .before .before .before .before .before .before .before .before .before .before .if1 .taken)) at (c .before .before .before .before .before .before .before .before .before .before .run-by-largest .ensures)
-
-run-by-list-requires : tie.Need-run-by-list-requires
-run-by-list-requires c κs = c .before .before .before .before .before .before .before .before .before .before .before .before .before .before .before .before .before .before .before .before .before .before .pre
-
-same-length-6 : tie.Need-same-length-6
-same-length-6 c = c .before .before .before .before .before .before .before .before .before .before .run-by-list .kept .1 .1 .1 .1 .1 .1 .1 .1 .1 .1 .1 .1 .1 .0
-
-same-length-7 : tie.Need-same-length-7
-same-length-7 c = c .before .before .before .before .before .before .before .before .before .before .run-by-list .kept .1 .1 .1 .1 .1 .1 .1 .1 .1 .1 .1 .1 .1 .1 .0
-
-same-length-8 : tie.Need-same-length-8
-same-length-8 c = c .before .before .before .before .before .before .before .before .before .before .run-by-list .kept .1 .1 .1 .1 .1 .1 .1 .1 .1 .1 .1 .1 .1 .1 .1 .0
-
-same-length-9 : tie.Need-same-length-9
-same-length-9 c = c .before .before .before .before .before .before .before .before .before .before .run-by-list .kept .1 .1 .1 .1 .1 .1 .1 .1 .1 .1 .1 .1 .1 .1 .1 .1 .0
-
-same-length-10 : tie.Need-same-length-10
-same-length-10 c = c .before .before .before .before .before .before .before .before .before .before .run-by-list .kept .1 .1 .1 .1 .1 .1 .1 .1 .1 .1 .1 .1 .1 .1 .1 .1 .1 .0
-
-returns-2 : tie.Need-returns-2
-returns-2 c = rw (some-chosen (c .before .before .before .before .before .before .before .before .before .before .before .before .before .before .before .before .before .before .before .before .before .before .before .before .before .before .before .before .before .before .before .before .before .args .rows .now) (c .before .before .before .before .before .before .before .before .before .before .before .before .before .before .before .before .if1 .left)) at (c .before .before .before .before .before .before .before .before .before .before .run-by-list .ensures)
+returns c = job-ran _ _ _ _ _ _ _ _ _ _ _ _ _ _ _ _ _ _ _ _ (c .before .before .before .before .before .before .before .before .before .before .before .before .before .before .before .before .before .before .before .before .before .before .before .before .before .before .before .before .before .before .before .before .choice-for .ensures) (c .before .before .before .before .before .before .before .before .before .before .before .before .before .before .before .before .before .before .before .before .before .before .before .before .before .before .before .before .before .before .before .before .before .before .before .before .before .before .before .before .before .before .before .before .before .before .before .before .before .pre .0) (c .before .before .before .before .before .before .before .before .before .before .before .before .before .before .before .before .before .before .before .before .before .before .before .before .before .before .before .before .before .before .before .before .before .before .before .before .before .before .before .before .before .before .before .before .before .before .before .before .before .pre .1) (c .before .before .before .before .before .before .before .before .before .before .before .before .before .before .before .before .before .before .run .ensures)
 
 pub run-job-spec : {M : Type 1} → statement M
 run-job-spec =
     tie.close
     (tie.spec
-    run-by-largest-requires
+    add-more
+    choice-for-requires
+    sub-run
+    part-row-heads-start
+    part-row-heads-end
+    sub-run-2
+    part-row-links-start
+    part-row-links-end
+    sub-run-3
+    part-set-heads-start
+    part-set-heads-end
+    sub-run-4
+    part-set-links-start
+    part-set-links-end
+    sub-run-5
+    part-list-start
+    part-list-end
+    sub-run-6
+    part-spare-start
+    part-spare-end
+    sub-run-7
+    part-copy-start
+    part-copy-end
+    sub-run-8
+    part-dense-start
+    part-dense-end
+    run-requires
     same-length
     same-length-2
     same-length-3
     same-length-4
     same-length-5
-    returns
-    run-by-list-requires
-    same-length-6
-    same-length-7
-    same-length-8
-    same-length-9
-    same-length-10
-    returns-2)
+    returns)

@@ -50,8 +50,8 @@ part-place-of-end c = let p = c .before .before .before .before .before .before 
 place-of-requires : tie.Need-place-of-requires
 place-of-requires c κs = slot-ascends _ _ _ _ _ (c .before .before .before .before .before .before .before .pre)
 
-add-result : tie.Need-add-result
-add-result c =
+add-at : tie.Need-add-at
+add-at c =
     let p = c .before .before .before .before .before .before .before .before in
     let f = slot-before _ _ _ _ _ (p .pre) _ (c .place-of .ensures) in
     let g = c .before .before .before .before .before .shared-slice-known3 .given (p .args .k) in
@@ -79,5 +79,5 @@ slot-of-spec =
     part-place-of-start
     part-place-of-end
     place-of-requires
-    add-result
+    add-at
     returns)

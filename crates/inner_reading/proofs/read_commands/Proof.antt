@@ -4,8 +4,9 @@ use Prim.Native.Nat.{_-_}
 use native.Mathlib.Omega.{arith}
 use borrow.Author.Needs.{needs}
 use lib.ListN.{length, length-set}
-use Rattle.inner_reading.specs.Progress.{Onward, Ended, Going}
-use Rattle.inner_reading.specs.Read.{storesOf}
+use Rattle.inner_commands.specs.Progress.{Onward}
+use Rattle.inner_reading.specs.Ending.{Ended, Going}
+use Rattle.inner_commands.specs.Stores.{storesOf}
 use Rattle.inner_reading.proofs.Course.{SameSizes, still-sized, start-written, loop-start, loop-more, loop-refused, loop-read, loop-falls}
 use Rattle.inner_reading.proofs.read_commands.Statement.{statement}
 use Rattle.inner_reading.proofs.read_commands.Tie as tie

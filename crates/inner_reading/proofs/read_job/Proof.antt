@@ -1,6 +1,7 @@
 -- `read_job` meets its contract.
 use native.Mathlib.Omega.{arith}
-use Rattle.inner_reading.specs.Read.{storesOf, Bounded}
+use Rattle.inner_commands.specs.Stores.{storesOf}
+use Rattle.inner_reading.specs.Read.{Bounded}
 use Rattle.inner_reading.proofs.Course.{long-refused, refused-whole, read-whole, read-bounded}
 use borrow.Author.Needs.{needs}
 use Rattle.inner_reading.proofs.read_job.Statement.{statement}

@@ -37,8 +37,8 @@ place-by-requires c κs =
     let g = c .before .before .before .before .before .before in
     opened-ascends _ _ _ _ _ (g .pre) _ _ _ (c .before .before .list-place .ensures)
 
-add-result : tie.Need-add-result
-add-result c =
+add-at : tie.Need-add-at
+add-at c =
     let k = c .before .before .before .before .before in
     let g = k .before .before .before in
     let f = slot-fits _ _ _ _ _ (g .pre) _ _ _ (c .before .before .before .before .list-place .ensures) _ (c .before .place-by .ensures) in
@@ -58,5 +58,5 @@ slot-of-spec =
     part-place-by-start
     part-place-by-end
     place-by-requires
-    add-result
+    add-at
     returns)

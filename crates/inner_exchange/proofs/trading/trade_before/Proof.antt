@@ -13,7 +13,7 @@ use Rattle.inner_exchange.proofs.trading.trade_before.Tie as tie
 abbrev Inv-loop : tie.InvT-loop
 Inv-loop us first p cell l-subs l-starts l-slots l₀ u₀ t₀ l u t =
     (t ≤ indexOf p us) × (indexOf p us < length us) × (length l ≡ length l₀) × (length u ≡ length u₀)
-    × ((w : BeforeAsks us first p l-subs l-starts l-slots l₀ u₀) → Traded (w .s) (w .n) (w .k) p t (w .square) (w .right) l u (w .d) (w .x))
+    × ((w : BeforeAsks us (first .0) p l-subs l-starts l-slots l₀ u₀) → Traded (w .s) (w .n) (w .k) p t (w .square) (w .right) l u (w .d) (w .x))
 
 abbrev μ-loop : tie.MeasureT-loop
 μ-loop us first p cell l-subs l-starts l-slots l₀ u₀ t₀ l u t = length us - t
@@ -43,91 +43,91 @@ slot-of-requires c κs =
 
 add-i : tie.Need-add-i Inv-loop μ-loop
 add-i c =
-    let g = c .before .before .before .before .before .before .before .before .before .before .before in
-    let b = c .before .before .before .before in
-    let f = before-own _ _ _ _ _ _ _ _ (g .pre) _ _ _ (b .loop .inv .4 (g .pre)) (b .loop .inv .0) (c .before .before .if1 .taken) in
+    let g = c .before .before .before .before .before .before .before .before .before .before .before .before in
+    let b = c .before .before .before .before .before in
+    let f = before-own _ _ _ _ _ _ _ _ (g .pre) _ _ _ (b .loop .inv .4 (g .pre)) (b .loop .inv .0) (c .before .before .before .if1 .taken) in
     record { fits = omega (arith, f, b .loop .inv .3, g .good .1 .1 .1 .1 .1 .1 .1 .1 .0 .0) }
 
 mul-v : tie.Need-mul-v Inv-loop μ-loop
 mul-v c =
-    let g = c .before .before .before .before .before .before .before .before .before .before .before in
-    let b = c .before .before .before .before in
-    let f = before-own _ _ _ _ _ _ _ _ (g .pre) _ _ _ (b .loop .inv .4 (g .pre)) (b .loop .inv .0) (c .before .before .if1 .taken) in
+    let g = c .before .before .before .before .before .before .before .before .before .before .before .before in
+    let b = c .before .before .before .before .before in
+    let f = before-own _ _ _ _ _ _ _ _ (g .pre) _ _ _ (b .loop .inv .4 (g .pre)) (b .loop .inv .0) (c .before .before .before .if1 .taken) in
     record { fits = omega (arith, f, b .loop .inv .3, g .good .1 .1 .1 .1 .1 .1 .1 .1 .0 .1) }
 
 slice-read-v : tie.Need-slice-read-v Inv-loop μ-loop
 slice-read-v c =
-    let g = c .before .before .before .before .before .before .before .before .before .before .before .before in
-    let b = c .before .before .before .before .before in
-    let f = before-own _ _ _ _ _ _ _ _ (g .pre) _ _ _ (b .loop .inv .4 (g .pre)) (b .loop .inv .0) (c .before .before .before .if1 .taken) in
+    let g = c .before .before .before .before .before .before .before .before .before .before .before .before .before in
+    let b = c .before .before .before .before .before .before in
+    let f = before-own _ _ _ _ _ _ _ _ (g .pre) _ _ _ (b .loop .inv .4 (g .pre)) (b .loop .inv .0) (c .before .before .before .before .if1 .taken) in
     f
 
 mul-u : tie.Need-mul-u Inv-loop μ-loop
 mul-u c =
-    let g = c .before .before .before .before .before .before .before .before .before .before .before .before in
-    let b = c .before .before .before .before .before in
-    let f = before-other _ _ _ _ _ _ _ _ (g .pre) _ _ _ (b .loop .inv .4 (g .pre)) (b .loop .inv .0) (c .before .before .before .if1 .taken) _ (c .before .slot-of .ensures) in
+    let g = c .before .before .before .before .before .before .before .before .before .before .before .before .before in
+    let b = c .before .before .before .before .before .before in
+    let f = before-other _ _ _ _ _ _ _ _ (g .pre) _ _ _ (b .loop .inv .4 (g .pre)) (b .loop .inv .0) (c .before .before .before .before .if1 .taken) _ (c .before .before .slot-of .ensures) in
     record { fits = omega (arith, f, b .loop .inv .2, g .good .1 .1 .1 .1 .1 .1 .1 .0 .1) }
 
 slice-read-u : tie.Need-slice-read-u Inv-loop μ-loop
 slice-read-u c =
-    let g = c .before .before .before .before .before .before .before .before .before .before .before .before .before in
-    let b = c .before .before .before .before .before .before in
-    let f = before-other _ _ _ _ _ _ _ _ (g .pre) _ _ _ (b .loop .inv .4 (g .pre)) (b .loop .inv .0) (c .before .before .before .before .if1 .taken) _ (c .before .before .slot-of .ensures) in
+    let g = c .before .before .before .before .before .before .before .before .before .before .before .before .before .before in
+    let b = c .before .before .before .before .before .before .before in
+    let f = before-other _ _ _ _ _ _ _ _ (g .pre) _ _ _ (b .loop .inv .4 (g .pre)) (b .loop .inv .0) (c .before .before .before .before .before .if1 .taken) _ (c .before .before .before .slot-of .ensures) in
     f
 
 mul-u-2 : tie.Need-mul-u-2 Inv-loop μ-loop
 mul-u-2 c =
-    let g = c .before .before .before .before .before .before .before .before .before .before .before .before .before in
-    let b = c .before .before .before .before .before .before in
-    let f = before-own _ _ _ _ _ _ _ _ (g .pre) _ _ _ (b .loop .inv .4 (g .pre)) (b .loop .inv .0) (c .before .before .before .before .if1 .taken) in
+    let g = c .before .before .before .before .before .before .before .before .before .before .before .before .before .before in
+    let b = c .before .before .before .before .before .before .before in
+    let f = before-own _ _ _ _ _ _ _ _ (g .pre) _ _ _ (b .loop .inv .4 (g .pre)) (b .loop .inv .0) (c .before .before .before .before .before .if1 .taken) in
     record { fits = omega (arith, f, b .loop .inv .3, g .good .1 .1 .1 .1 .1 .1 .1 .1 .0 .1) }
 
 slice-write-u : tie.Need-slice-write-u Inv-loop μ-loop
 slice-write-u c =
-    let g = c .before .before .before .before .before .before .before .before .before .before .before .before .before in
-    let b = c .before .before .before .before .before .before in
-    let f = before-own _ _ _ _ _ _ _ _ (g .pre) _ _ _ (b .loop .inv .4 (g .pre)) (b .loop .inv .0) (c .before .before .before .before .if1 .taken) in
+    let g = c .before .before .before .before .before .before .before .before .before .before .before .before .before .before in
+    let b = c .before .before .before .before .before .before .before in
+    let f = before-own _ _ _ _ _ _ _ _ (g .pre) _ _ _ (b .loop .inv .4 (g .pre)) (b .loop .inv .0) (c .before .before .before .before .before .if1 .taken) in
     f
 
 mul-l : tie.Need-mul-l Inv-loop μ-loop
 mul-l c =
-    let g = c .before .before .before .before .before .before .before .before .before .before .before .before .before in
-    let b = c .before .before .before .before .before .before in
-    let f = before-other _ _ _ _ _ _ _ _ (g .pre) _ _ _ (b .loop .inv .4 (g .pre)) (b .loop .inv .0) (c .before .before .before .before .if1 .taken) _ (c .before .before .slot-of .ensures) in
+    let g = c .before .before .before .before .before .before .before .before .before .before .before .before .before .before in
+    let b = c .before .before .before .before .before .before .before in
+    let f = before-other _ _ _ _ _ _ _ _ (g .pre) _ _ _ (b .loop .inv .4 (g .pre)) (b .loop .inv .0) (c .before .before .before .before .before .if1 .taken) _ (c .before .before .before .slot-of .ensures) in
     record { fits = omega (arith, f, b .loop .inv .2, g .good .1 .1 .1 .1 .1 .1 .1 .0 .1) }
 
 slice-write-l : tie.Need-slice-write-l Inv-loop μ-loop
 slice-write-l c =
-    let g = c .before .before .before .before .before .before .before .before .before .before .before .before .before in
-    let b = c .before .before .before .before .before .before in
-    let f = before-other _ _ _ _ _ _ _ _ (g .pre) _ _ _ (b .loop .inv .4 (g .pre)) (b .loop .inv .0) (c .before .before .before .before .if1 .taken) _ (c .before .before .slot-of .ensures) in
+    let g = c .before .before .before .before .before .before .before .before .before .before .before .before .before .before in
+    let b = c .before .before .before .before .before .before .before in
+    let f = before-other _ _ _ _ _ _ _ _ (g .pre) _ _ _ (b .loop .inv .4 (g .pre)) (b .loop .inv .0) (c .before .before .before .before .before .if1 .taken) _ (c .before .before .before .slot-of .ensures) in
     f
 
 add-t : tie.Need-add-t Inv-loop μ-loop
 add-t c =
-    let g = c .before .before .before .before .before .before .before .before .before .before .before .before .before in
-    let b = c .before .before .before .before .before .before in
-    let f = nearer _ _ _ _ _ _ _ _ (g .pre) _ _ _ (b .loop .inv .4 (g .pre)) (b .loop .inv .0) (c .before .before .before .before .if1 .taken) in
+    let g = c .before .before .before .before .before .before .before .before .before .before .before .before .before .before in
+    let b = c .before .before .before .before .before .before .before in
+    let f = nearer _ _ _ _ _ _ _ _ (g .pre) _ _ _ (b .loop .inv .4 (g .pre)) (b .loop .inv .0) (c .before .before .before .before .before .if1 .taken) in
     search needs
 
 loop-less : tie.Need-loop-less Inv-loop μ-loop
 loop-less c =
-    let g = c .before .before .before .before .before .before .before .before .before .before .before .before .before in
-    let b = c .before .before .before .before .before .before in
-    let f = nearer _ _ _ _ _ _ _ _ (g .pre) _ _ _ (b .loop .inv .4 (g .pre)) (b .loop .inv .0) (c .before .before .before .before .if1 .taken) in
+    let g = c .before .before .before .before .before .before .before .before .before .before .before .before .before .before in
+    let b = c .before .before .before .before .before .before .before in
+    let f = nearer _ _ _ _ _ _ _ _ (g .pre) _ _ _ (b .loop .inv .4 (g .pre)) (b .loop .inv .0) (c .before .before .before .before .before .if1 .taken) in
     search needs
 
 loop-again : tie.Need-loop-again Inv-loop μ-loop
 loop-again c =
-    let g = c .before .before .before .before .before .before .before .before .before .before .before .before .before in
-    let b = c .before .before .before .before .before .before in
-    let r = c .before .before .before .before .if1 .taken in (
+    let g = c .before .before .before .before .before .before .before .before .before .before .before .before .before .before in
+    let b = c .before .before .before .before .before .before .before in
+    let r = c .before .before .before .before .before .if1 .taken in (
       next-le _ _ (nearer _ _ _ _ _ _ _ _ (g .pre) _ _ _ (b .loop .inv .4 (g .pre)) (b .loop .inv .0) r),
       b .loop .inv .1,
       simp length-set (b .loop .inv .2),
       simp length-set (b .loop .inv .3),
-      λ w. before-turn _ _ _ _ _ _ _ _ w _ _ _ (b .loop .inv .4 w) (b .loop .inv .0) r _ (c .before .before .slot-of .ensures),
+      λ w. before-turn _ _ _ _ _ _ _ _ w _ _ _ (b .loop .inv .4 w) (b .loop .inv .0) r _ (c .before .before .before .slot-of .ensures),
     )
 
 same-length : tie.Need-same-length Inv-loop μ-loop

@@ -12,7 +12,7 @@ use Rattle.inner_exchange.proofs.trading.trade_beyond.Tie as tie
 abbrev Inv-loop : tie.InvT-loop
 Inv-loop us first from own second guess u₀ t₀ next₀ u t next =
     (from ≤ t) × (t ≤ length us) × (length u ≡ length u₀)
-    × ((w : BeyondAsks us first from own second u₀) → Traded (w .s) (w .n) (w .k) (w .p) t (w .square) (w .right) (w .l) u (w .d) (w .x))
+    × ((w : BeyondAsks us (first .0) from own (second .0) u₀) → Traded (w .s) (w .n) (w .k) (w .p) t (w .square) (w .right) (w .l) u (w .d) (w .x))
 
 abbrev μ-loop : tie.MeasureT-loop
 μ-loop us first from own second guess u₀ t₀ next₀ u t next = length us - t
@@ -33,79 +33,79 @@ place-by-requires c κs = own-ascends _ _ _ _ _ _ (c .before .before .before .be
 
 add-i : tie.Need-add-i Inv-loop μ-loop
 add-i c =
-    let g = c .before .before .before .before .before .before .before in
-    let b = c .before .before .before in
-    let f = beyond-own _ _ _ _ _ _ (g .pre) _ _ (b .loop .inv .3 (g .pre)) (b .loop .inv .0) (c .before .before .loop-test .taken) in
+    let g = c .before .before .before .before .before .before .before .before in
+    let b = c .before .before .before .before in
+    let f = beyond-own _ _ _ _ _ _ (g .pre) _ _ (b .loop .inv .3 (g .pre)) (b .loop .inv .0) (c .before .before .before .loop-test .taken) in
     record { fits = omega (arith, f, b .loop .inv .2, g .good .1 .1 .1 .1 .1 .1 .0 .0) }
 
 add-j : tie.Need-add-j Inv-loop μ-loop
 add-j c =
-    let g = c .before .before .before .before .before .before .before in
-    let b = c .before .before .before in
-    let f = beyond-other _ _ _ _ _ _ (g .pre) _ _ (b .loop .inv .3 (g .pre)) (b .loop .inv .0) (c .before .before .loop-test .taken) _ (c .place-by .ensures) in
+    let g = c .before .before .before .before .before .before .before .before .before in
+    let b = c .before .before .before .before .before in
+    let f = beyond-other _ _ _ _ _ _ (g .pre) _ _ (b .loop .inv .3 (g .pre)) (b .loop .inv .0) (c .before .before .before .before .loop-test .taken) _ (c .before .before .place-by .ensures) in
     record { fits = omega (arith, f, b .loop .inv .2, g .good .1 .1 .1 .1 .1 .1 .0 .0) }
 
 mul-v : tie.Need-mul-v Inv-loop μ-loop
 mul-v c =
-    let g = c .before .before .before .before .before .before .before in
-    let b = c .before .before .before in
-    let f = beyond-own _ _ _ _ _ _ (g .pre) _ _ (b .loop .inv .3 (g .pre)) (b .loop .inv .0) (c .before .before .loop-test .taken) in
+    let g = c .before .before .before .before .before .before .before .before .before in
+    let b = c .before .before .before .before .before in
+    let f = beyond-own _ _ _ _ _ _ (g .pre) _ _ (b .loop .inv .3 (g .pre)) (b .loop .inv .0) (c .before .before .before .before .loop-test .taken) in
     record { fits = omega (arith, f, b .loop .inv .2, g .good .1 .1 .1 .1 .1 .1 .0 .1) }
 
 slice-read-v : tie.Need-slice-read-v Inv-loop μ-loop
 slice-read-v c =
-    let g = c .before .before .before .before .before .before .before .before in
-    let b = c .before .before .before .before in
-    let f = beyond-own _ _ _ _ _ _ (g .pre) _ _ (b .loop .inv .3 (g .pre)) (b .loop .inv .0) (c .before .before .before .loop-test .taken) in
+    let g = c .before .before .before .before .before .before .before .before .before .before in
+    let b = c .before .before .before .before .before .before in
+    let f = beyond-own _ _ _ _ _ _ (g .pre) _ _ (b .loop .inv .3 (g .pre)) (b .loop .inv .0) (c .before .before .before .before .before .loop-test .taken) in
     f
 
 mul-u : tie.Need-mul-u Inv-loop μ-loop
 mul-u c =
-    let g = c .before .before .before .before .before .before .before .before in
-    let b = c .before .before .before .before in
-    let f = beyond-other _ _ _ _ _ _ (g .pre) _ _ (b .loop .inv .3 (g .pre)) (b .loop .inv .0) (c .before .before .before .loop-test .taken) _ (c .before .place-by .ensures) in
+    let g = c .before .before .before .before .before .before .before .before .before .before in
+    let b = c .before .before .before .before .before .before in
+    let f = beyond-other _ _ _ _ _ _ (g .pre) _ _ (b .loop .inv .3 (g .pre)) (b .loop .inv .0) (c .before .before .before .before .before .loop-test .taken) _ (c .before .before .before .place-by .ensures) in
     record { fits = omega (arith, f, b .loop .inv .2, g .good .1 .1 .1 .1 .1 .1 .0 .1) }
 
 slice-read-u : tie.Need-slice-read-u Inv-loop μ-loop
 slice-read-u c =
-    let g = c .before .before .before .before .before .before .before .before .before in
-    let b = c .before .before .before .before .before in
-    let f = beyond-other _ _ _ _ _ _ (g .pre) _ _ (b .loop .inv .3 (g .pre)) (b .loop .inv .0) (c .before .before .before .before .loop-test .taken) _ (c .before .before .place-by .ensures) in
+    let g = c .before .before .before .before .before .before .before .before .before .before .before in
+    let b = c .before .before .before .before .before .before .before in
+    let f = beyond-other _ _ _ _ _ _ (g .pre) _ _ (b .loop .inv .3 (g .pre)) (b .loop .inv .0) (c .before .before .before .before .before .before .loop-test .taken) _ (c .before .before .before .before .place-by .ensures) in
     f
 
 mul-u-2 : tie.Need-mul-u-2 Inv-loop μ-loop
 mul-u-2 c =
-    let g = c .before .before .before .before .before .before .before .before .before in
-    let b = c .before .before .before .before .before in
-    let f = beyond-own _ _ _ _ _ _ (g .pre) _ _ (b .loop .inv .3 (g .pre)) (b .loop .inv .0) (c .before .before .before .before .loop-test .taken) in
+    let g = c .before .before .before .before .before .before .before .before .before .before .before in
+    let b = c .before .before .before .before .before .before .before in
+    let f = beyond-own _ _ _ _ _ _ (g .pre) _ _ (b .loop .inv .3 (g .pre)) (b .loop .inv .0) (c .before .before .before .before .before .before .loop-test .taken) in
     record { fits = omega (arith, f, b .loop .inv .2, g .good .1 .1 .1 .1 .1 .1 .0 .1) }
 
 slice-write-u : tie.Need-slice-write-u Inv-loop μ-loop
 slice-write-u c =
-    let g = c .before .before .before .before .before .before .before .before .before in
-    let b = c .before .before .before .before .before in
-    let f = beyond-own _ _ _ _ _ _ (g .pre) _ _ (b .loop .inv .3 (g .pre)) (b .loop .inv .0) (c .before .before .before .before .loop-test .taken) in
+    let g = c .before .before .before .before .before .before .before .before .before .before .before in
+    let b = c .before .before .before .before .before .before .before in
+    let f = beyond-own _ _ _ _ _ _ (g .pre) _ _ (b .loop .inv .3 (g .pre)) (b .loop .inv .0) (c .before .before .before .before .before .before .loop-test .taken) in
     f
 
 mul-u-3 : tie.Need-mul-u-3 Inv-loop μ-loop
 mul-u-3 c =
-    let g = c .before .before .before .before .before .before .before .before .before in
-    let b = c .before .before .before .before .before in
-    let f = beyond-other _ _ _ _ _ _ (g .pre) _ _ (b .loop .inv .3 (g .pre)) (b .loop .inv .0) (c .before .before .before .before .loop-test .taken) _ (c .before .before .place-by .ensures) in
+    let g = c .before .before .before .before .before .before .before .before .before .before .before in
+    let b = c .before .before .before .before .before .before .before in
+    let f = beyond-other _ _ _ _ _ _ (g .pre) _ _ (b .loop .inv .3 (g .pre)) (b .loop .inv .0) (c .before .before .before .before .before .before .loop-test .taken) _ (c .before .before .before .before .place-by .ensures) in
     record { fits = omega (arith, f, b .loop .inv .2, g .good .1 .1 .1 .1 .1 .1 .0 .1) }
 
 slice-write-u-2 : tie.Need-slice-write-u-2 Inv-loop μ-loop
 slice-write-u-2 c =
-    let g = c .before .before .before .before .before .before .before .before .before in
-    let b = c .before .before .before .before .before in
-    let f = beyond-other _ _ _ _ _ _ (g .pre) _ _ (b .loop .inv .3 (g .pre)) (b .loop .inv .0) (c .before .before .before .before .loop-test .taken) _ (c .before .before .place-by .ensures) in
+    let g = c .before .before .before .before .before .before .before .before .before .before .before in
+    let b = c .before .before .before .before .before .before .before in
+    let f = beyond-other _ _ _ _ _ _ (g .pre) _ _ (b .loop .inv .3 (g .pre)) (b .loop .inv .0) (c .before .before .before .before .before .before .loop-test .taken) _ (c .before .before .before .before .place-by .ensures) in
     simp length-set f
 
 add-next : tie.Need-add-next Inv-loop μ-loop
 add-next c =
-    let g = c .before .before .before .before .before .before .before .before .before in
-    let b = c .before .before .before .before .before in
-    let f = beyond-other _ _ _ _ _ _ (g .pre) _ _ (b .loop .inv .3 (g .pre)) (b .loop .inv .0) (c .before .before .before .before .loop-test .taken) _ (c .before .before .place-by .ensures) in
+    let g = c .before .before .before .before .before .before .before .before .before .before .before in
+    let b = c .before .before .before .before .before .before .before in
+    let f = beyond-other _ _ _ _ _ _ (g .pre) _ _ (b .loop .inv .3 (g .pre)) (b .loop .inv .0) (c .before .before .before .before .before .before .loop-test .taken) _ (c .before .before .before .before .place-by .ensures) in
     record { fits = omega (arith, f, b .loop .inv .2, g .good .1 .1 .1 .1 .1 .1 .0 .0) }
 
 add-t : tie.Need-add-t Inv-loop μ-loop
@@ -116,13 +116,13 @@ loop-less c = search needs
 
 loop-again : tie.Need-loop-again Inv-loop μ-loop
 loop-again c =
-    let g = c .before .before .before .before .before .before .before .before .before in
-    let b = c .before .before .before .before .before in
-    let r = c .before .before .before .before .loop-test .taken in (
+    let g = c .before .before .before .before .before .before .before .before .before .before .before in
+    let b = c .before .before .before .before .before .before .before in
+    let r = c .before .before .before .before .before .before .loop-test .taken in (
       omega (arith, b .loop .inv .0),
       next-le _ _ r,
       simp (length-set, length-set) (b .loop .inv .2),
-      λ w. beyond-turn _ _ _ _ _ _ w _ _ (b .loop .inv .3 w) (b .loop .inv .0) r _ (c .before .before .place-by .ensures),
+      λ w. beyond-turn _ _ _ _ _ _ w _ _ (b .loop .inv .3 w) (b .loop .inv .0) r _ (c .before .before .before .before .place-by .ensures),
     )
 
 same-length : tie.Need-same-length Inv-loop μ-loop

@@ -12,7 +12,7 @@ use Rattle.inner_sides.proofs.crossing.reduce_lists.Statement.{statemen
 use Rattle.inner_sides.proofs.crossing.reduce_lists.Tie as tie
 
 abbrev Inv-loop : tie.InvT-loop
-Inv-loop y₀ subs starts slots heads factors over values dense opening flag bad₀ s₀ t₀ y bad s t = (t ≤ length heads) × (s ≤ length over) × (length y ≡ length y₀) × Under t s heads over × ((w : HeadsAsk y₀ subs starts slots heads over factors values dense opening) → Partly y₀ subs starts slots heads over factors values dense opening w flag y bad t)
+Inv-loop y₀ subs starts slots heads factors over values dense opening flag bad₀ s₀ t₀ y bad s t = (t ≤ length heads) × (s ≤ length over) × (length y ≡ length y₀) × Under t s heads over × ((w : HeadsAsk y₀ subs starts slots heads over factors values dense (opening .0)) → Partly y₀ subs starts slots heads over factors values dense (opening .0) w flag y bad t)
 
 abbrev μ-loop : tie.MeasureT-loop
 μ-loop y₀ subs starts slots heads factors over values dense opening flag bad₀ s₀ t₀ y bad s t = length heads - t
@@ -71,7 +71,7 @@ sub-a c =
     let g = b .before .before .before .before .before .before .before .before .before .before in
     let h = b .loop .inv .4 (g .pre) in
     let l = c .before .before .before .before .before .loop-test .taken in
-    let f = low _ _ _ _ _ _ _ _ _ _ (g .pre) _ _ _ _ h l in search needs
+    let f = low _ _ _ _ _ _ _ _ _ _ (g .pre) _ _ _ _ h l in omega (arith, f)
 
 mul-a : tie.Need-mul-a Inv-loop μ-loop
 mul-a c =
@@ -79,7 +79,7 @@ mul-a c =
     let g = b .before .before .before .before .before .before .before .before .before .before in
     let h = b .loop .inv .4 (g .pre) in
     let l = c .before .before .before .before .before .loop-test .taken in
-    let f = index-low _ _ _ _ _ _ _ _ _ _ (g .pre) _ _ _ _ h l in search needs
+    let f = index-low _ _ _ _ _ _ _ _ _ _ (g .pre) _ _ _ _ h l in omega (arith, f)
 
 shared-slice-read-a : tie.Need-shared-slice-read-a Inv-loop μ-loop
 shared-slice-read-a c =
@@ -87,7 +87,7 @@ shared-slice-read-a c =
     let g = b .before .before .before .before .before .before .before .before .before .before in
     let h = b .loop .inv .4 (g .pre) in
     let l = c .before .before .before .before .before .before .loop-test .taken in
-    let f = index-low _ _ _ _ _ _ _ _ _ _ (g .pre) _ _ _ _ h l in search needs
+    let f = index-low _ _ _ _ _ _ _ _ _ _ (g .pre) _ _ _ _ h l in omega (arith, f)
 
 mul-e : tie.Need-mul-e Inv-loop μ-loop
 mul-e c =
@@ -95,7 +95,7 @@ mul-e c =
     let g = b .before .before .before .before .before .before .before .before .before .before in
     let h = b .loop .inv .4 (g .pre) in
     let l = c .before .before .before .before .before .before .loop-test .taken in
-    let f = index-high _ _ _ _ _ _ _ _ _ _ (g .pre) _ _ _ _ h l in search needs
+    let f = index-high _ _ _ _ _ _ _ _ _ _ (g .pre) _ _ _ _ h l in omega (arith, f)
 
 shared-slice-read-e : tie.Need-shared-slice-read-e Inv-loop μ-loop
 shared-slice-read-e c =
@@ -103,7 +103,7 @@ shared-slice-read-e c =
     let g = b .before .before .before .before .before .before .before .before .before .before in
     let h = b .loop .inv .4 (g .pre) in
     let l = c .before .before .before .before .before .before .before .loop-test .taken in
-    let f = index-high _ _ _ _ _ _ _ _ _ _ (g .pre) _ _ _ _ h l in search needs
+    let f = index-high _ _ _ _ _ _ _ _ _ _ (g .pre) _ _ _ _ h l in omega (arith, f)
 
 sub-b : tie.Need-sub-b Inv-loop μ-loop
 sub-b c =
@@ -111,7 +111,7 @@ sub-b c =
     let g = b .before .before .before .before .before .before .before .before .before .before in
     let h = b .loop .inv .4 (g .pre) in
     let l = c .before .before .before .before .before .before .before .loop-test .taken in
-    let f = low _ _ _ _ _ _ _ _ _ _ (g .pre) _ _ _ _ h l in search needs
+    let f = low _ _ _ _ _ _ _ _ _ _ (g .pre) _ _ _ _ h l in omega (arith, f)
 
 mul-b : tie.Need-mul-b Inv-loop μ-loop
 mul-b c =
@@ -119,7 +119,7 @@ mul-b c =
     let g = b .before .before .before .before .before .before .before .before .before .before in
     let h = b .loop .inv .4 (g .pre) in
     let l = c .before .before .before .before .before .before .before .loop-test .taken in
-    let f = index-start _ _ _ _ _ _ _ _ _ _ (g .pre) _ _ _ _ h l in search needs
+    let f = index-start _ _ _ _ _ _ _ _ _ _ (g .pre) _ _ _ _ h l in omega (arith, f)
 
 shared-slice-read-b : tie.Need-shared-slice-read-b Inv-loop μ-loop
 shared-slice-read-b c =
@@ -127,7 +127,7 @@ shared-slice-read-b c =
     let g = b .before .before .before .before .before .before .before .before .before .before in
     let h = b .loop .inv .4 (g .pre) in
     let l = c .before .before .before .before .before .before .before .before .loop-test .taken in
-    let f = index-start _ _ _ _ _ _ _ _ _ _ (g .pre) _ _ _ _ h l in search needs
+    let f = index-start _ _ _ _ _ _ _ _ _ _ (g .pre) _ _ _ _ h l in omega (arith, f)
 
 sub-f : tie.Need-sub-f Inv-loop μ-loop
 sub-f c =
@@ -135,7 +135,7 @@ sub-f c =
     let g = b .before .before .before .before .before .before .before .before .before .before in
     let h = b .loop .inv .4 (g .pre) in
     let l = c .before .before .before .before .before .before .before .before .loop-test .taken in
-    let f = ends _ _ _ _ _ _ _ _ _ _ (g .pre) _ _ _ _ h l in search needs
+    let f = ends _ _ _ _ _ _ _ _ _ _ (g .pre) _ _ _ _ h l in omega (arith, f)
 
 add-f : tie.Need-add-f Inv-loop μ-loop
 add-f c =
@@ -143,79 +143,79 @@ add-f c =
     let g = b .before .before .before .before .before .before .before .before .before .before in
     let h = b .loop .inv .4 (g .pre) in
     let l = c .before .before .before .before .before .before .before .before .loop-test .taken in
-    let f = ends _ _ _ _ _ _ _ _ _ _ (g .pre) _ _ _ _ h l in search needs
+    let f = ends _ _ _ _ _ _ _ _ _ _ (g .pre) _ _ _ _ h l in omega (arith, f)
 
 add-cell : tie.Need-add-cell Inv-loop μ-loop
 add-cell c =
-    let b = c .before .before .before .before .before .before .before .before .before in
+    let b = c .before .before .before .before .before .before .before .before .before .before in
     let g = b .before .before .before .before .before .before .before .before .before .before in
     let h = b .loop .inv .4 (g .pre) in
-    let l = c .before .before .before .before .before .before .before .before .loop-test .taken in
-    let f = cell-fits _ _ _ _ _ _ _ _ _ _ (g .pre) _ _ _ _ h l _ (c .before .before .before .before .before .first-above .ensures .0) in search needs
+    let l = c .before .before .before .before .before .before .before .before .before .loop-test .taken in
+    let f = cell-fits _ _ _ _ _ _ _ _ _ _ (g .pre) _ _ _ _ h l _ (c .before .before .before .before .before .before .first-above .ensures .0) in omega (arith, f)
 
 mul-reduce-list : tie.Need-mul-reduce-list Inv-loop μ-loop
 mul-reduce-list c =
-    let b = c .before .before .before .before .before .before .before .before .before in
+    let b = c .before .before .before .before .before .before .before .before .before .before in
     let g = b .before .before .before .before .before .before .before .before .before .before in
     let h = b .loop .inv .4 (g .pre) in
-    let l = c .before .before .before .before .before .before .before .before .loop-test .taken in
-    let f = ends _ _ _ _ _ _ _ _ _ _ (g .pre) _ _ _ _ h l in search needs
+    let l = c .before .before .before .before .before .before .before .before .before .loop-test .taken in
+    let f = ends _ _ _ _ _ _ _ _ _ _ (g .pre) _ _ _ _ h l in omega (arith, f)
 
 sub-reduce-list : tie.Need-sub-reduce-list Inv-loop μ-loop
 sub-reduce-list c =
-    let b = c .before .before .before .before .before .before .before .before .before in
+    let b = c .before .before .before .before .before .before .before .before .before .before in
     let g = b .before .before .before .before .before .before .before .before .before .before in
     let h = b .loop .inv .4 (g .pre) in
-    let l = c .before .before .before .before .before .before .before .before .loop-test .taken in
-    let f = ends _ _ _ _ _ _ _ _ _ _ (g .pre) _ _ _ _ h l in search needs
+    let l = c .before .before .before .before .before .before .before .before .before .loop-test .taken in
+    let f = ends _ _ _ _ _ _ _ _ _ _ (g .pre) _ _ _ _ h l in omega (arith, f)
 
 part-reduce-list-start : tie.Need-part-reduce-list-start Inv-loop μ-loop
 part-reduce-list-start c =
-    let b = c .before .before .before .before .before .before .before .before .before in
+    let b = c .before .before .before .before .before .before .before .before .before .before in
     let g = b .before .before .before .before .before .before .before .before .before .before in
     let h = b .loop .inv .4 (g .pre) in
-    let l = c .before .before .before .before .before .before .before .before .loop-test .taken in
-    let f = ends _ _ _ _ _ _ _ _ _ _ (g .pre) _ _ _ _ h l in search needs
+    let l = c .before .before .before .before .before .before .before .before .before .loop-test .taken in
+    let f = ends _ _ _ _ _ _ _ _ _ _ (g .pre) _ _ _ _ h l in omega (arith, f)
 
 part-reduce-list-end : tie.Need-part-reduce-list-end Inv-loop μ-loop
 part-reduce-list-end c =
-    let b = c .before .before .before .before .before .before .before .before .before in
+    let b = c .before .before .before .before .before .before .before .before .before .before in
     let g = b .before .before .before .before .before .before .before .before .before .before in
     let h = b .loop .inv .4 (g .pre) in
-    let l = c .before .before .before .before .before .before .before .before .loop-test .taken in
-    let f = ends _ _ _ _ _ _ _ _ _ _ (g .pre) _ _ _ _ h l in search needs
+    let l = c .before .before .before .before .before .before .before .before .before .loop-test .taken in
+    let f = ends _ _ _ _ _ _ _ _ _ _ (g .pre) _ _ _ _ h l in omega (arith, f)
 
 mul-reduce-list-2 : tie.Need-mul-reduce-list-2 Inv-loop μ-loop
 mul-reduce-list-2 c =
-    let b = c .before .before .before .before .before .before .before .before .before .before in
+    let b = c .before .before .before .before .before .before .before .before .before .before .before in
     let g = b .before .before .before .before .before .before .before .before .before .before in
     let h = b .loop .inv .4 (g .pre) in
-    let l = c .before .before .before .before .before .before .before .before .before .loop-test .taken in
-    let f = ends _ _ _ _ _ _ _ _ _ _ (g .pre) _ _ _ _ h l in search needs
+    let l = c .before .before .before .before .before .before .before .before .before .before .loop-test .taken in
+    let f = ends _ _ _ _ _ _ _ _ _ _ (g .pre) _ _ _ _ h l in omega (arith, f)
 
 sub-reduce-list-2 : tie.Need-sub-reduce-list-2 Inv-loop μ-loop
 sub-reduce-list-2 c =
-    let b = c .before .before .before .before .before .before .before .before .before .before in
+    let b = c .before .before .before .before .before .before .before .before .before .before .before in
     let g = b .before .before .before .before .before .before .before .before .before .before in
     let h = b .loop .inv .4 (g .pre) in
-    let l = c .before .before .before .before .before .before .before .before .before .loop-test .taken in
-    let f = ends _ _ _ _ _ _ _ _ _ _ (g .pre) _ _ _ _ h l in search needs
+    let l = c .before .before .before .before .before .before .before .before .before .before .loop-test .taken in
+    let f = ends _ _ _ _ _ _ _ _ _ _ (g .pre) _ _ _ _ h l in omega (arith, f)
 
 part-reduce-list-start-2 : tie.Need-part-reduce-list-start-2 Inv-loop μ-loop
 part-reduce-list-start-2 c =
-    let b = c .before .before .before .before .before .before .before .before .before .before in
+    let b = c .before .before .before .before .before .before .before .before .before .before .before in
     let g = b .before .before .before .before .before .before .before .before .before .before in
     let h = b .loop .inv .4 (g .pre) in
-    let l = c .before .before .before .before .before .before .before .before .before .loop-test .taken in
-    let f = ends _ _ _ _ _ _ _ _ _ _ (g .pre) _ _ _ _ h l in search needs
+    let l = c .before .before .before .before .before .before .before .before .before .before .loop-test .taken in
+    let f = ends _ _ _ _ _ _ _ _ _ _ (g .pre) _ _ _ _ h l in omega (arith, f)
 
 part-reduce-list-end-2 : tie.Need-part-reduce-list-end-2 Inv-loop μ-loop
 part-reduce-list-end-2 c =
-    let b = c .before .before .before .before .before .before .before .before .before .before in
+    let b = c .before .before .before .before .before .before .before .before .before .before .before in
     let g = b .before .before .before .before .before .before .before .before .before .before in
     let h = b .loop .inv .4 (g .pre) in
-    let l = c .before .before .before .before .before .before .before .before .before .loop-test .taken in
-    let f = ends _ _ _ _ _ _ _ _ _ _ (g .pre) _ _ _ _ h l in search needs
+    let l = c .before .before .before .before .before .before .before .before .before .before .loop-test .taken in
+    let f = ends _ _ _ _ _ _ _ _ _ _ (g .pre) _ _ _ _ h l in omega (arith, f)
 
 mul-reduce-list-3 : tie.Need-mul-reduce-list-3 Inv-loop μ-loop
 mul-reduce-list-3 c = search needs
@@ -239,26 +239,26 @@ part-reduce-list-start-4 : tie.Need-part-reduce-list-start-4 Inv-loop μ-loop
 part-reduce-list-start-4 c = search needs
 
 part-reduce-list-end-4 : tie.Need-part-reduce-list-end-4 Inv-loop μ-loop
-part-reduce-list-end-4 c = let f = values-length _ _ _ _ _ _ _ _ _ _ (c .before .before .before .before .before .before .before .before .before .before .before .before .before .before .before .before .before .before .before .before .before .before .pre) in search needs
+part-reduce-list-end-4 c = let f = values-length _ _ _ _ _ _ _ _ _ _ (c .before .before .before .before .before .before .before .before .before .before .before .before .before .before .before .before .before .before .before .before .before .before .before .pre) in search needs
 
 reduce-list-requires : tie.Need-reduce-list-requires Inv-loop μ-loop
 unfolding ofBits isZero plusZero
 reduce-list-requires c κs =
-    let b = c .before .before .before .before .before .before .before .before .before .before .before .before .before in
+    let b = c .before .before .before .before .before .before .before .before .before .before .before .before .before .before in
     let g = b .before .before .before .before .before .before .before .before .before .before in
-    let l = c .before .before .before .before .before .before .before .before .before .before .before .before .loop-test .taken in
-    let q = c .before .before .before .before .before .before .before .before .before .first-above .ensures in
-    asked _ _ _ _ _ _ _ _ _ _ (g .pre) _ _ _ _ (b .loop .inv .4 (g .pre)) l _ (omega (arith, q .0, c .before .before .before .before .before .before .before .if2 .left)) (q .1) (q .2) _ (c .before .before .before .before .before .before .before .before .if1 .left)
+    let l = c .before .before .before .before .before .before .before .before .before .before .before .before .before .loop-test .taken in
+    let q = c .before .before .before .before .before .before .before .before .before .before .first-above .ensures in
+    asked _ _ _ _ _ _ _ _ _ _ (g .pre) _ _ _ _ (b .loop .inv .4 (g .pre)) l _ (omega (arith, q .0, c .before .before .before .before .before .before .before .before .if2 .left)) (q .1) (q .2) _ (c .before .before .before .before .before .before .before .before .before .if1 .left)
 
 loop-less-3 : tie.Need-loop-less-3 Inv-loop μ-loop
-loop-less-3 c = less _ _ (c .before .before .before .before .before .before .before .before .before .before .before .before .before .before .before .loop-test .taken)
+loop-less-3 c = less _ _ (c .before .before .before .before .before .before .before .before .before .before .before .before .before .before .before .before .loop-test .taken)
 
 loop-again-3 : tie.Need-loop-again-3 Inv-loop μ-loop
 loop-again-3 c =
-    let b = c .before .before .before .before .before .before .before .before .before .before .before .before .before .before .before .before in
+    let b = c .before .before .before .before .before .before .before .before .before .before .before .before .before .before .before .before .before in
     let g = b .before .before .before .before .before .before .before .before .before .before in
-    let l = c .before .before .before .before .before .before .before .before .before .before .before .before .before .before .before .loop-test .taken in
-    let q = c .before .before .before .before .before .before .before .before .before .before .before .before .first-above .ensures in
+    let l = c .before .before .before .before .before .before .before .before .before .before .before .before .before .before .before .before .loop-test .taken in
+    let q = c .before .before .before .before .before .before .before .before .before .before .before .before .before .first-above .ensures in
     (next-le _ _ l, q .0, c .before .y .given .1 ∙ b .loop .inv .2, under-next 0 _ _ _ _ (g .pre .reduction .once) l (q .1), λ w. partly-turn _ _ _ _ _ _ _ _ _ _ w _ _ _ _ (b .loop .inv .4 w) l _ _ (c .before .before .reduce-list .ensures))
 
 same-length : tie.Need-same-length Inv-loop μ-loop

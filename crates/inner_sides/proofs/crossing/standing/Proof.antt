@@ -1,7 +1,7 @@
 -- `standing` meets its contract: the cell lies inside the list, or the place is searched for.
 use borrow.Author.Needs.{needs}
 use Rattle.inner_slots.proofs.Places.{found-member}
-use Rattle.inner_sides.proofs.Crossings.{cell-inside}
+use Rattle.inner_stretches.proofs.Crossings.{cell-inside}
 use Rattle.inner_sides.proofs.crossing.standing.Statement.{statement}
 use Rattle.inner_sides.proofs.crossing.standing.Tie as tie
 
@@ -9,7 +9,7 @@ use Rattle.inner_sides.proofs.crossing.standing.Tie as tie
 returns : tie.Need-returns
 returns c =
     let b = c .before .before .before in
-    cell-inside _ (b .args .start) (b .args .cell) _ (b .pre .2) (c .before .if1 .taken) (c .if2 .taken)
+    cell-inside _ (b .args .start .0) (b .args .cell .0) _ (b .pre .2) (c .before .if1 .taken) (c .if2 .taken)
 
 -- src/crossing.rt:28:5
 place-of-requires : tie.Need-place-of-requires

@@ -1,0 +1,76 @@
+// The header in C++, with stores of the caller's own: the four fields of document 01.
+#include "dalumiveth.h"
+
+#include <cstdio>
+#include <vector>
+
+namespace {
+
+// A vector of the right length, lent.
+dlm_numbers lent(std::vector<size_t> &store, size_t length)
+{
+    store.assign(length, 7);
+    return dlm_numbers{store.data(), store.size()};
+}
+
+dlm_reals lent(std::vector<double> &store, size_t length)
+{
+    store.assign(length, 7);
+    return dlm_reals{store.data(), store.size()};
+}
+
+struct Stores {
+    std::vector<size_t> numbers[13];
+    std::vector<double> reals[6];
+};
+
+dlm_plan plan_stores(Stores &s, const dlm_sizes &sizes)
+{
+    return dlm_plan{dlm_counts(),
+                    lent(s.numbers[0], sizes.l_subs),
+                    lent(s.numbers[1], sizes.l_starts),
+                    lent(s.numbers[2], sizes.l_slots),
+                    lent(s.numbers[3], sizes.u_subs),
+                    lent(s.numbers[4], sizes.u_starts),
+                    lent(s.numbers[5], sizes.u_slots)};
+}
+
+dlm_work work_stores(Stores &s, const dlm_sizes &sizes)
+{
+    return dlm_work{lent(s.numbers[6], sizes.row_heads),  lent(s.numbers[7], sizes.row_links), lent(s.numbers[8], sizes.set_heads),
+                    lent(s.numbers[9], sizes.set_links),  lent(s.numbers[10], sizes.list),     lent(s.numbers[11], sizes.spare),
+                    lent(s.reals[0], sizes.copy),         lent(s.reals[1], sizes.dense)};
+}
+
+dlm_factor factor_stores(Stores &s, const dlm_sizes &sizes)
+{
+    return dlm_factor{lent(s.reals[2], sizes.l), lent(s.reals[3], sizes.u),         lent(s.reals[4], sizes.d),
+                      lent(s.reals[5], sizes.x), lent(s.numbers[12], sizes.pivots), 0};
+}
+
+} // namespace
+
+int main()
+{
+    const size_t starts[] = {0, 2, 4, 6, 9};
+    const size_t columns[] = {1, 3, 2, 4, 1, 3, 2, 3, 4};
+    const double values[] = {2, 1, 1, 1, 4, 4, 2, 1, 4};
+    const double right_side[] = {3, 2, 8, 7};
+    const dlm_pattern pattern = dlm_pattern_of(4, starts, columns, 9);
+    const dlm_system system = dlm_system_of(values, 9, right_side, 4);
+    Stores stores;
+    dlm_sizes sizes = dlm_sizes_for(4, 9, nullptr);
+    dlm_plan plan = plan_stores(stores, sizes);
+    dlm_work work = work_stores(stores, sizes);
+    dlm_answer answer = dlm_make_plan(&pattern, &plan, &work);
+    sizes = dlm_sizes_for(4, 9, &plan.counts);
+    dlm_factor factor = factor_stores(stores, sizes);
+    bool good = answer.refusal == DLM_NONE && dlm_verify_plan(&pattern, &plan, &work).refusal == DLM_NONE;
+    good = good && dlm_run_largest(&pattern, &plan, &system, dlm_whole(), &factor, &work).refusal == DLM_NONE;
+    for (size_t i = 0; i < 4; i++)
+        good = good && factor.x.at[i] == 1;
+    uint32_t tally = 0;
+    good = good && dlm_tally_add(&tally, factor.updates).refusal == DLM_NONE && tally == 3;
+    std::printf("%s\n", good ? "the four fields from C++: right" : "the four fields from C++: wrong");
+    return good ? 0 : 1;
+}

@@ -1,0 +1,101 @@
+! Fixed calls from Fortran: what the example does not show.
+program from_fortran
+  use, intrinsic :: iso_c_binding, only: c_int8_t
+  use dalumiveth
+  implicit none
+  real(dlm_real), parameter :: values(9) = [2, 1, 1, 1, 4, 4, 2, 1, 4]
+  real(dlm_real), parameter :: right_side(4) = [3, 2, 8, 7]
+  type(dlm_pattern) :: pattern
+  type(dlm_plan) :: plan
+  type(dlm_work) :: work
+  type(dlm_factor) :: factor
+  integer :: tried = 0, wrong = 0
+
+  pattern%n = 4
+  pattern%starts = [integer(dlm_size) :: 0, 2, 4, 6, 9]
+  pattern%columns = [integer(dlm_size) :: 1, 3, 2, 4, 1, 3, 2, 3, 4]
+  call test_plan()
+  call test_runs()
+  call test_refused_plans()
+  call test_tally()
+  call test_job()
+  print '(i0, a, i0, a)', tried, " tried, ", wrong, " wrong"
+  if (wrong /= 0) stop 1
+
+contains
+
+  subroutine expect(holds, what)
+    logical, intent(in) :: holds
+    character(*), intent(in) :: what
+    tried = tried + 1
+    if (holds) return
+    wrong = wrong + 1
+    print '(a, a)', "wrong: ", what
+  end subroutine
+
+  logical function is(answer, number, step)
+    type(dlm_answer), intent(in) :: answer
+    integer, intent(in) :: number, step
+    is = answer%refusal == number .and. answer%step == step
+  end function
+
+  subroutine test_plan()
+    call expect(is(dlm_make_plan(pattern, plan, work), 0, 0), "the four fields are planned")
+    call expect(all(plan%l_subs == [3, 4]) .and. all(plan%l_starts == [0, 1, 1, 2]), "M2: the L store")
+    call expect(all(plan%u_subs == [3, 4]) .and. all(plan%u_starts == [0, 0, 1, 2]), "M2: the U store")
+    call expect(is(dlm_verify_plan(pattern, plan, work), 0, 0), "the plan is the pattern's")
+    plan%counts(7) = 30
+    call expect(is(dlm_verify_plan(pattern, plan, work), 9, 0), "a plan with another count is not")
+    plan%counts(7) = 31
+  end subroutine
+
+  subroutine test_runs()
+    real(dlm_real) :: spread(2, 9)
+    type(dlm_answer) :: answer
+    answer = dlm_run_listed(pattern, plan, values, right_side, [integer(dlm_size) :: 1, 2, 4, 4], factor, work)
+    call expect(is(answer, 0, 0) .and. factor%updates == 3 .and. factor%u(4) == 2, "M6: 3 updates, 2 in U slot (3, 4)")
+    answer = dlm_run_largest(pattern, plan, values, right_side, factor, work, steps=1_dlm_size)
+    call expect(is(answer, 0, 0) .and. all(factor%pivots == [3, 0, 0, 0]), "cut to one step")
+    answer = dlm_run_largest(pattern, plan, values, right_side, factor, work, steps=5_dlm_size)
+    call expect(is(answer, 12, 0) .and. all(factor%d == 0), "cut to 5 of 4 steps is 12")
+    answer = dlm_run_largest(pattern, plan, values(1:8), right_side, factor, work)
+    call expect(is(answer, 10, 0), "8 values are 10")
+    spread = -1
+    spread(2, :) = values
+    answer = dlm_run_largest(pattern, plan, spread(2, :), right_side, factor, work)
+    call expect(is(answer, 0, 0) .and. all(factor%x == 1), "values with gaps between them")
+  end subroutine
+
+  subroutine test_refused_plans()
+    type(dlm_pattern) :: other
+    type(dlm_plan) :: none
+    other = pattern
+    other%n = -1
+    call expect(is(dlm_make_plan(other, none, work), 1, 0), "a negative n is 1")
+    other%n = 1025
+    call expect(is(dlm_make_plan(other, none, work), 1, 0) .and. all(none%counts == 0), "1,025 fields are 1")
+    other%n = 3
+    call expect(is(dlm_make_plan(other, none, work), 2, 0), "starts for another n are 2")
+    call expect(is(dlm_run_largest(pattern, none, values, right_side, factor, work), 6, 0), "stores for another n are 6")
+  end subroutine
+
+  ! Sums above 2,147,483,647 are where a signed number of 32 bits ends.
+  subroutine test_tally()
+    integer(dlm_size) :: tally
+    tally = 2147483640_dlm_size
+    call expect(is(dlm_tally_add(tally, 20_dlm_size), 0, 0) .and. tally == 2147483660_dlm_size, "past 31 bits")
+    call expect(is(dlm_tally_add(tally, 2147483635_dlm_size), 0, 0) .and. tally == 4294967295_dlm_size, "the largest sum")
+    call expect(is(dlm_tally_add(tally, 1_dlm_size), 19, 0) .and. tally == 4294967295_dlm_size, "one more is 19")
+    tally = 4294967296_dlm_size
+    call expect(is(dlm_tally_add(tally, 0_dlm_size), 19, 0), "no tally has this sum")
+  end subroutine
+
+  subroutine test_job()
+    integer(c_int8_t) :: out(8192)
+    character(len=13) :: text
+    integer(dlm_size) :: printed
+    printed = dalumiveth_job([78_c_int8_t], 1_dlm_size, out, 8192_dlm_size)
+    text = transfer(out(1:13), text)
+    call expect(printed == 13 .and. text == "refused 16 0" // new_line("a"), "the byte N alone is 16")
+  end subroutine
+end program

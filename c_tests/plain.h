@@ -1,0 +1,56 @@
+/* Document 01 written down plainly, without sparse stores: sets as rows of marks, the square as a square. Nothing here is taken from the
+   library; the tests compare the two. Indexes of sets and squares count from 1, place 0 is not used. */
+#ifndef PLAIN_H
+#define PLAIN_H
+
+#include "dalumiveth.h"
+
+/* The largest n of a trial that gets as far as planning. */
+enum { PLAIN_MOST = 120 };
+
+/* The lists of one side and their shared subscripts. */
+typedef struct plain_side {
+    unsigned char has[PLAIN_MOST + 1][PLAIN_MOST + 1]; /* has[k][i]: i belongs to the list of step k; k itself is among its members */
+    size_t kept[PLAIN_MOST + 1];                       /* members beyond k */
+    size_t start[PLAIN_MOST + 1];
+    size_t subs[PLAIN_MOST * PLAIN_MOST];
+    size_t end[PLAIN_MOST + 1]; /* the store's end after step k */
+    size_t slots[PLAIN_MOST + 1]; /* slots of the first k steps */
+} plain_side;
+
+typedef struct plain_plan {
+    size_t n;
+    size_t entries;
+    size_t reads;
+    plain_side l;
+    plain_side u;
+} plain_plan;
+
+/* How the pivot rows are chosen. */
+typedef enum plain_choice { BY_LARGEST, BY_LIST, AT_RANDOM } plain_choice;
+
+typedef struct plain_run {
+    dlm_answer answer;
+    size_t updates;
+    double square[PLAIN_MOST + 1][PLAIN_MOST + 1];
+    double x[PLAIN_MOST + 1];
+    size_t pivots[PLAIN_MOST + 1];
+} plain_run;
+
+dlm_answer plain_answer(size_t number, size_t step);
+
+/* Refusals 1 to 5. */
+dlm_answer plain_judge_pattern(const dlm_pattern *pattern);
+
+/* Lists, reads, subscripts and slots of a pattern that passes 1 to 5. */
+void plain_make_plan(const dlm_pattern *pattern, plain_plan *plan);
+
+/* Refusals 7 and 8 for stores with room for so many subscripts. */
+dlm_answer plain_judge_room(const plain_plan *plan, size_t l_room, size_t u_room);
+
+/* Elimination and solution of a system that passes 1 to 12, with 13 and 14. `rows` is read by BY_LIST alone; `draw` gives AT_RANDOM its
+   numbers. */
+void plain_eliminate(const dlm_pattern *pattern, const dlm_system *system, plain_choice choice, const size_t *rows, size_t (*draw)(size_t),
+                     dlm_extent extent, plain_run *run);
+
+#endif

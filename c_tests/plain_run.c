@@ -1,0 +1,135 @@
+/* The reference of document 01: elimination on a full square of double. To be compiled with -ffp-contract=off: "the product is rounded
+   once, then the difference". Zero means +0 or -0, which is what == says. */
+#include "plain.h"
+
+#include <math.h>
+#include <string.h>
+
+static void load(const dlm_pattern *pattern, const dlm_system *system, plain_run *run)
+{
+    size_t i;
+    size_t place;
+    memset(run, 0, sizeof *run);
+    for (i = 1; i <= pattern->n; i++) {
+        for (place = pattern->starts[i - 1]; place < pattern->starts[i]; place++)
+            run->square[i][pattern->columns[place]] = system->values[place];
+        run->x[i] = system->right[i - 1];
+    }
+}
+
+/* The row of the largest magnitude in column k, the lowest if equal; 0 if all are zero. */
+static size_t largest_row(const plain_run *run, size_t n, size_t k)
+{
+    size_t i;
+    size_t best = 0;
+    double magnitude = 0;
+    for (i = k; i <= n; i++) {
+        if (fabs(run->square[i][k]) > magnitude) {
+            magnitude = fabs(run->square[i][k]);
+            best = i;
+        }
+    }
+    return best;
+}
+
+/* One of the rows with a nonzero entry; 0 if there is none. */
+static size_t random_row(const plain_run *run, size_t n, size_t k, size_t (*draw)(size_t))
+{
+    size_t i;
+    size_t found = 0;
+    size_t chosen = 0;
+    for (i = k; i <= n; i++)
+        if (run->square[i][k] != 0 && draw(++found) == 0)
+            chosen = i;
+    return chosen;
+}
+
+/* Columns k to n and the right side; earlier multipliers stay. */
+static void exchange(plain_run *run, size_t n, size_t k, size_t p)
+{
+    size_t j;
+    double kept = run->x[k];
+    run->x[k] = run->x[p];
+    run->x[p] = kept;
+    for (j = k; j <= n; j++) {
+        kept = run->square[k][j];
+        run->square[k][j] = run->square[p][j];
+        run->square[p][j] = kept;
+    }
+}
+
+/* place - m * u through `place`; whether product and difference are finite. */
+static int subtract(double *place, double m, double u)
+{
+    double product = m * u;
+    *place = *place - product;
+    return isfinite(product) && isfinite(*place);
+}
+
+/* Row i below the pivot row, whose entry in column k is not zero. Whether all results are finite. */
+static int reduce_row(plain_run *run, size_t n, size_t k, size_t i)
+{
+    size_t j;
+    double m = run->square[i][k] / run->square[k][k];
+    run->square[i][k] = m;
+    if (!isfinite(m))
+        return 0;
+    if (m == 0)
+        return 1;
+    for (j = k + 1; j <= n; j++) {
+        if (run->square[k][j] == 0)
+            continue;
+        if (!subtract(&run->square[i][j], m, run->square[k][j]))
+            return 0;
+        run->updates++;
+    }
+    return subtract(&run->x[i], m, run->x[k]);
+}
+
+/* The refusal's number, or 0. */
+static size_t step(plain_run *run, size_t n, size_t k, size_t p)
+{
+    size_t i;
+    if (p == 0 || run->square[p][k] == 0)
+        return 13;
+    exchange(run, n, k, p);
+    run->pivots[k] = p;
+    for (i = k + 1; i <= n; i++)
+        if (run->square[i][k] != 0 && !reduce_row(run, n, k, i))
+            return 14;
+    return 0;
+}
+
+/* Whether all results of row i are finite. */
+static int solve_row(plain_run *run, size_t n, size_t i)
+{
+    size_t j;
+    for (j = i + 1; j <= n; j++)
+        if (run->square[i][j] != 0 && !subtract(&run->x[i], run->square[i][j], run->x[j]))
+            return 0;
+    run->x[i] = run->x[i] / run->square[i][i];
+    return isfinite(run->x[i]);
+}
+
+void plain_eliminate(const dlm_pattern *pattern, const dlm_system *system, plain_choice choice, const size_t *rows, size_t (*draw)(size_t),
+                     dlm_extent extent, plain_run *run)
+{
+    size_t n = pattern->n;
+    size_t steps = extent.cut != 0 ? extent.steps : n;
+    size_t k;
+    load(pattern, system, run);
+    for (k = 1; k <= steps; k++) {
+        size_t p = choice == BY_LIST ? rows[k - 1] : choice == BY_LARGEST ? largest_row(run, n, k) : random_row(run, n, k, draw);
+        size_t number = step(run, n, k, p);
+        if (number != 0) {
+            run->answer = plain_answer(number, k);
+            return;
+        }
+    }
+    for (k = n; extent.cut == 0 && k > 0; k--) {
+        if (!solve_row(run, n, k)) {
+            run->answer = plain_answer(14, k);
+            return;
+        }
+    }
+}

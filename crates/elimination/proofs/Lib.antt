@@ -1,0 +1,2 @@
+-- A law of the call.
+pub mod Chosen

@@ -1,0 +1,233 @@
+-- The pivot row of a step: the fold over the rows from k on gives the lowest row of the largest magnitude. Magnitudes of finite numbers are compared as
+-- fractions, crosswise.
+use mathlib.Core.Bool.{Bool, true, false, false≢true}
+use mathlib.Core.Path.{_≡_, refl, sym, ap, subst, _∙_}
+use Prim.Native.Nat.{ℕ, zero, suc, _+_, _-_, _*_, _≤_, _<_}
+use native.Mathlib.Decide.{decLt}
+use native.Mathlib.Nat.{zero-mul, mul-pos, mul-right-comm, mul-le-mul-right, mul-lt-mul-of-pos-right, lt-of-mul-lt-mul-right}
+use native.Mathlib.Omega.{arith}
+use lib.Dec.{eqb, ltb}
+use lib.Ieee.{Float, nan, inf, fin, up, down, level, lt, eq}
+use lib.Ieee.Fits.{down-pos}
+use borrow.Author.Tests.{ltb-true, ltb-false, lt-ltb, le-ltb, eqb-true, eqb-false, not-true, not-false}
+use Rattle.lists.specs.Sets.{run, between}
+use Rattle.lists.proofs.Members.{by-test, and-left}
+use Rattle.foundation.specs.Claims.{LargestFrom, LargestRow, ListedRow}
+use Rattle.foundation.specs.Numbers.{plusZero, isZero, finite, magnitude, mayPivot}
+use Rattle.foundation.specs.Reference.{better, best, pivotRow}
+
+-- ---- magnitudes as fractions
+
+-- a finite number's magnitude is `over` / `under`
+over : Float → ℕ
+over nan = 0
+over (inf s) = 0
+over (fin s m e) = m * up e
+
+under : Float → ℕ
+under nan = 1
+under (inf s) = 1
+under (fin s m e) = down e
+
+under-positive : (x : Float) → 0 < under x
+unfolding under
+under-positive nan = omega arith
+under-positive (inf s) = omega arith
+under-positive (fin s m e) = down-pos e
+
+less-is : (x y : Float) → finite x ≡ true → finite y ≡ true → lt (magnitude x) (magnitude y) ≡ ltb (over x * under y) (over y * under x)
+unfolding finite magnitude lt over under
+less-is nan y f g = absurd (false≢true f)
+less-is (inf s) y f g = absurd (false≢true f)
+less-is (fin s m e) nan f g = absurd (false≢true g)
+less-is (fin s m e) (inf t) f g = absurd (false≢true g)
+less-is (fin s m e) (fin t n d) f g = refl
+
+-- a finite number is a zero just where `over` is 0
+flat : (a b : ℕ) → a * 1 ≡ 0 * b → a ≡ 0
+flat a b h = omega (arith, h, zero-mul b)
+
+level-zero : (s : Bool) (a b : ℕ) → a ≡ 0 → b ≡ 0 → level s a false b ≡ true
+level-zero false a b p q = rw (p, q)
+level-zero true a b p q = rw (p, q)
+
+no-pivot-zero : (x : Float) → finite x ≡ true → mayPivot x ≡ false → over x ≡ 0
+unfolding finite mayPivot isZero plusZero eq over
+no-pivot-zero nan f e = absurd (false≢true f)
+no-pivot-zero (inf s) f e = absurd (false≢true f)
+no-pivot-zero (fin s m d) f e =
+    let zero-of : level s (m * up d * 1) false (0 * down d) ≡ true = not-false _ e in
+    flat (m * up d) (down d) (eqb-true _ _ (and-left (eqb (m * up d * 1) (0 * down d)) _ zero-of))
+
+pivot-positive : (x : Float) → finite x ≡ true → mayPivot x ≡ true → 0 < over x
+unfolding finite mayPivot isZero plusZero eq over
+pivot-positive nan f e = absurd (false≢true f)
+pivot-positive (inf s) f e = absurd (false≢true f)
+pivot-positive (fin s m d) f e =
+    by-test (eqb (m * up d) 0)
+    (λ t.
+    let none : m * up d ≡ 0 = eqb-true _ _ t in
+    let zero-of : level s (m * up d * 1) false (0 * down d) ≡ true = level-zero s (m * up d * 1) (0 * down d) (omega arith) (zero-mul (down d)) in
+    absurd (false≢true (sym (not-true _ e) ∙ zero-of)))
+    (λ t. let some : m * up d ≡ 0 → ⊥ = eqb-false _ _ t in omega (arith, some))
+
+-- ---- the order of magnitudes
+
+-- a/u is below c/w and not below b/v, so b/v is below c/w
+crosswise : (a u b v c w : ℕ) → 0 < v → a * w < c * u → b * u ≤ a * v → b * w < c * v
+crosswise a u b v c w positive below above =
+    lt-of-mul-lt-mul-right u
+    (omega (arith, mul-right-comm b w u, mul-le-mul-right w above, mul-right-comm a v w, mul-lt-mul-of-pos-right below positive, mul-right-comm c u v))
+
+module _ (x y : Float) (f : finite x ≡ true) (g : finite y ≡ true) where
+  reverse : lt (magnitude x) (magnitude y) ≡ true → lt (magnitude y) (magnitude x) ≡ false
+  reverse e =
+      let below : over x * under y < over y * under x = ltb-true (over x * under y) (over y * under x) (sym (less-is x y f g) ∙ e) in
+      rw (less-is y x g f) (le-ltb (over y * under x) (over x * under y) (omega arith))
+
+  not-below-zero : mayPivot y ≡ false → lt (magnitude x) (magnitude y) ≡ false
+  not-below-zero e =
+      let nothing : over y * under x ≡ 0 = ap (λ (v : ℕ). v * under x) (no-pivot-zero y g e) ∙ zero-mul (under x) in
+      rw (less-is x y f g) (le-ltb (over x * under y) (over y * under x) (omega arith))
+
+  zero-below : mayPivot x ≡ false → mayPivot y ≡ true → lt (magnitude x) (magnitude y) ≡ true
+  zero-below e may =
+      let nothing : over x * under y ≡ 0 = ap (λ (v : ℕ). v * under y) (no-pivot-zero x f e) ∙ zero-mul (under y) in
+      let something : 0 < over y * under x = mul-pos (pivot-positive y g may) (under-positive x) in
+      rw (less-is x y f g) (lt-ltb (over x * under y) (over y * under x) (omega arith))
+
+not-below-self : (x : Float) → finite x ≡ true → lt (magnitude x) (magnitude x) ≡ false
+not-below-self x f = rw (less-is x x f f) (le-ltb (over x * under x) (over x * under x) (omega arith))
+
+-- where x is below z and not below y, y is below z
+passed-on :
+    (x y z : Float) → finite x ≡ true → finite y ≡ true → finite z ≡ true → lt (magnitude x) (magnitude z) ≡ true → lt (magnitude x) (magnitude y) ≡ false
+    → lt (magnitude y) (magnitude z) ≡ true
+passed-on x y z f g h below above =
+    rw (less-is y z g h)
+    (lt-ltb _ _
+    (crosswise (over x) (under x) (over y) (under y) (over z) (under z) (under-positive y) (ltb-true _ _ (sym (less-is x z f h) ∙ below))
+    (ltb-false _ _ (sym (less-is x y f g) ∙ above))))
+
+-- ---- the row
+
+-- r leads among the rows from k to before `end`
+record Leads (k end : ℕ) (entry : ℕ → Float) (r : ℕ) : Type 0 where
+  without : r ≡ 0 → (i : ℕ) → k ≤ i → i < end → mayPivot (entry i) ≡ false
+  found : 1 ≤ r → (k ≤ r) × (r < end) × (mayPivot (entry r) ≡ true)
+  greatest : 1 ≤ r → (i : ℕ) → k ≤ i → i < end → lt (magnitude (entry r)) (magnitude (entry i)) ≡ false
+  lowest : 1 ≤ r → (i : ℕ) → k ≤ i → i < r → lt (magnitude (entry i)) (magnitude (entry r)) ≡ true
+
+-- a fact of the rows before `end` and of `end` itself
+and-last : (P : ℕ → Type 0) (k end : ℕ) → ((i : ℕ) → k ≤ i → i < end → P i) → P end → (i : ℕ) → k ≤ i → i < suc end → P i
+and-last P k end before at i low high =
+    elim (decLt i end) [
+      | yes h ↦ before i low h
+      | no n ↦ let same : end ≡ i = omega arith in subst P same at
+    ]
+
+module _ (last k : ℕ) (entry : ℕ → Float) (low : 1 ≤ k) (sound : (i : ℕ) → k ≤ i → i ≤ last → finite (entry i) ≡ true) where
+  -- the leading row stays where the next one is not larger, or cannot serve
+  stays :
+      (end r : ℕ) → Leads k end entry r → (r ≡ 0 → mayPivot (entry end) ≡ false)
+      → (1 ≤ r → lt (magnitude (entry r)) (magnitude (entry end)) ≡ false) → Leads k (suc end) entry r
+  stays end r was none small =
+      record {
+        without = λ z. and-last (λ i. mayPivot (entry i) ≡ false) k end (was .without z) (none z);
+        found = λ some. let (a, b, c) = was .found some in (a, omega arith, c);
+        greatest = λ some. and-last (λ i. lt (magnitude (entry r)) (magnitude (entry i)) ≡ false) k end (was .greatest some) (small some);
+        lowest = was .lowest;
+      }
+
+  -- the next row leads where it may serve and every row before it is smaller
+  takes-over :
+      (end : ℕ) → k ≤ end → end ≤ last → mayPivot (entry end) ≡ true
+      → ((i : ℕ) → k ≤ i → i < end → lt (magnitude (entry i)) (magnitude (entry end)) ≡ true) → Leads k (suc end) entry end
+  takes-over end from high may smaller =
+      record {
+        without = λ z. absurd (omega arith);
+        found = λ some. (from, omega arith, may);
+        greatest = λ some. and-last (λ i. lt (magnitude (entry end)) (magnitude (entry i)) ≡ false) k end
+            (λ i a b. reverse (entry i) (entry end) (sound i a (omega arith)) (sound end from high) (smaller i a b)) (not-below-self (entry end) (sound end from high));
+        lowest = λ some. smaller;
+      }
+
+  next-leads : (end r : ℕ) → k ≤ end → end ≤ last → Leads k end entry r → Leads k (suc end) entry (better entry r end)
+  unfolding better
+  next-leads end r from high was =
+      by-test (mayPivot (entry end))
+      (λ may.
+      by-test (eqb r 0)
+      (λ e.
+      rw (may, e)
+      (takes-over end from high may
+      (λ i a b. zero-below (entry i) (entry end) (sound i a (omega arith)) (sound end from high) (was .without (eqb-true r 0 e) i a b) may)))
+      (λ e.
+      let some : r ≡ 0 → ⊥ = eqb-false r 0 e in
+      let one : 1 ≤ r = omega (arith, some) in
+      let within : (k ≤ r) × (r < end) × (mayPivot (entry r) ≡ true) = was .found one in
+      let leader : finite (entry r) ≡ true = sound r (within .0) (omega (arith, within .1)) in
+      by-test (lt (magnitude (entry r)) (magnitude (entry end)))
+      (λ l.
+      rw (may, e, l)
+      (takes-over end from high may
+      (λ i a b. passed-on (entry r) (entry i) (entry end) leader (sound i a (omega arith)) (sound end from high) l (was .greatest one i a b))))
+      (λ l. rw (may, e, l) (stays end r was (λ z. absurd (some z)) (λ o. l)))))
+      (λ no.
+      rw no
+      (stays end r was (λ z. no)
+      (λ one.
+      let within : (k ≤ r) × (r < end) × (mayPivot (entry r) ≡ true) = was .found one in
+      not-below-zero (entry r) (entry end) (sound r (within .0) (omega (arith, within .1))) (sound end from high) no)))
+
+  best-leads :
+      (count end r : ℕ) → k ≤ end → (1 ≤ count → end + count ≤ suc last) → Leads k end entry r → (stop : ℕ) → end + count ≡ stop
+      → Leads k stop entry (best entry r (run end count))
+  unfolding best run
+  best-leads zero end r from high was stop e = let same : end ≡ stop = omega arith in subst (λ (v : ℕ). Leads k v entry r) same was
+  best-leads (suc count) end r from high was stop e =
+      best-leads count (suc end) (better entry r end) (omega arith) (λ some. omega (arith, high (omega arith))) (next-leads end r from (omega (arith, high (omega arith))) was) stop (omega arith)
+
+  -- no row leads among none
+  none-leads : Leads k k entry 0
+  none-leads =
+      record {
+        without = λ z i a b. absurd (omega arith);
+        found = λ some. absurd (omega arith);
+        greatest = λ some i a b. absurd (omega arith);
+        lowest = λ some i a b. absurd (omega arith);
+      }
+
+  largest-from : LargestFrom k last entry (best entry 0 (between k last))
+  unfolding between
+  largest-from = of (k + (suc last - k)) refl (best entry 0 (run k (suc last - k)))
+      (best-leads (suc last - k) k 0 (omega arith) (λ some. omega arith) none-leads (k + (suc last - k)) refl)
+    where
+      of : (stop : ℕ) → k + (suc last - k) ≡ stop → (r : ℕ) → Leads k stop entry r → LargestFrom k last entry r
+      of stop ends r leads =
+          record {
+            without = (
+              λ z i b. leads .without z i (b .0) (omega (arith, b .1)),
+              λ none. by-test (eqb r 0) (λ e. eqb-true r 0 e)
+                  (λ e.
+                  let some : r ≡ 0 → ⊥ = eqb-false r 0 e in
+                  let within : (k ≤ r) × (r < stop) × (mayPivot (entry r) ≡ true) = leads .found (omega (arith, some)) in
+                  absurd (false≢true (sym (none r (within .0, omega (arith, within .0, within .1))) ∙ within .2))),
+            );
+            found = λ some. let (a, b, c) = leads .found some in (a, omega arith, c);
+            greatest = λ some i b. leads .greatest some i (b .0) (omega (arith, b .1));
+            lowest = λ some i b. leads .lowest some i (b .0) (b .1);
+          }
+
+pub largest-row : LargestRow
+unfolding LargestRow pivotRow
+largest-row last zero entry low sound = absurd (omega arith)
+largest-row last (suc before) entry low sound = largest-from last (suc before) entry low (λ i a b. sound i (a, b))
+
+pub listed-row : ListedRow
+unfolding ListedRow pivotRow
+listed-row rows last zero entry low = absurd (omega arith)
+listed-row rows last (suc before) entry low = rw (less-one before) (λ e. rw e, λ e. rw e)
+  where
+    less-one : (v : ℕ) → suc v - 1 ≡ v
+    less-one v = omega arith

@@ -1,0 +1,2 @@
+-- What the contracts of the pivot row cite.
+pub mod Pivot

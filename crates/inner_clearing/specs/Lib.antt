@@ -1,0 +1,2 @@
+-- What a cleared store holds.
+pub mod Blanks

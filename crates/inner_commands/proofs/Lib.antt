@@ -1,0 +1,3 @@
+-- Laws of the commands.
+pub mod Commanding
+pub mod Bounds

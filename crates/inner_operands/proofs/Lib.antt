@@ -1,0 +1,2 @@
+-- Laws of numbers in their bytes.
+pub mod Bytes

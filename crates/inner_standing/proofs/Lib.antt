@@ -1,0 +1,2 @@
+-- Laws of which command may stand where.
+pub mod Placing

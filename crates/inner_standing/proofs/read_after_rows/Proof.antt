@@ -1,0 +1,103 @@
+-- `read_after_rows` meets its contract.
+use mathlib.Core.Path.{_∙_}
+use native.Mathlib.Omega.{arith}
+use Rattle.inner_commands.specs.Progress.{withRows, Onward}
+use Rattle.inner_standing.proofs.Placing.{at-p, p-full, at-z-none, at-z-all, z-some, after-else}
+use borrow.Author.Needs.{needs}
+use Rattle.inner_standing.proofs.read_after_rows.Statement.{statement}
+use Rattle.inner_standing.proofs.read_after_rows.Tie as tie
+
+shared-slice-read-byte : tie.Need-shared-slice-read-byte
+shared-slice-read-byte c = search needs
+
+sub-left : tie.Need-sub-left
+sub-left c = search needs
+
+read-p-requires : tie.Need-read-p-requires
+read-p-requires c κs = search needs
+
+same-length : tie.Need-same-length
+same-length c = search needs
+
+returns : tie.Need-returns
+returns c =
+    let b = c .before .before .before .before .before .before .before .before .before .before in (
+      λ s room.
+          c .before .before .read-p .ensures .0 s
+          ∙ at-p (b .args .job .now) (b .args .p) (b .pre .0) (withRows s (b .args .rows .now)) (b .pre .1) (b .pre .3) (b .pre .2) room (omega (arith, b .pre .0 .sound .picked, b .pre .0 .sound .small, b .pre .4))
+          (c .before .before .before .before .before .if1 .taken) (omega (arith, c .before .before .before .before .if2 .taken)),
+      c .before .before .read-p .ensures .1,
+    )
+
+returns-2 : tie.Need-returns-2
+unfolding Onward
+returns-2 c =
+    let b = c .before .before .before .before .before .before in (
+      λ s room.
+          p-full (b .args .job .now) (b .args .p) (b .pre .0) (withRows s (b .args .rows .now)) (b .pre .1) (b .pre .3) (b .pre .2) room (omega (arith, b .pre .0 .sound .picked, b .pre .0 .sound .small, b .pre .4))
+          (c .before .if1 .taken) (omega arith),
+      tt,
+    )
+
+read-z-requires : tie.Need-read-z-requires
+read-z-requires c κs = search needs
+
+returns-3 : tie.Need-returns-3
+returns-3 c =
+    let b = c .before .before .before .before .before .before .before .before in (
+      λ s room.
+          c .read-z .ensures .0 (withRows s (b .args .rows .now))
+          ∙ at-z-none (b .args .job .now) (b .args .p) (b .pre .0) (withRows s (b .args .rows .now)) (b .pre .1) (b .pre .3) (b .pre .2) room (omega (arith, b .pre .0 .sound .picked, b .pre .0 .sound .small, b .pre .4))
+          (c .before .before .if3 .taken) (omega (arith, c .before .if4 .taken)),
+      c .read-z .ensures .1,
+    )
+
+read-z-requires-2 : tie.Need-read-z-requires-2
+read-z-requires-2 c κs = search needs
+
+returns-4 : tie.Need-returns-4
+returns-4 c =
+    let b = c .before .before .before .before .before .before .before .before .before in (
+      λ s room.
+          c .read-z2 .ensures .0 (withRows s (b .args .rows .now))
+          ∙ at-z-all (b .args .job .now) (b .args .p) (b .pre .0) (withRows s (b .args .rows .now)) (b .pre .1) (b .pre .3) (b .pre .2) room (omega (arith, b .pre .0 .sound .picked, b .pre .0 .sound .small, b .pre .4))
+          (c .before .before .before .if3 .taken) (c .before .before .if4 .left) (omega (arith, b .pre .0 .sound .picked, c .before .if5 .taken)),
+      c .read-z2 .ensures .1,
+    )
+
+returns-5 : tie.Need-returns-5
+unfolding Onward
+returns-5 c =
+    let b = c .before .before .before .before .before .before .before .before in (
+      λ s room.
+          z-some (b .args .job .now) (b .args .p) (b .pre .0) (withRows s (b .args .rows .now)) (b .pre .1) (b .pre .3) (b .pre .2) room (omega (arith, b .pre .0 .sound .picked, b .pre .0 .sound .small, b .pre .4))
+          (c .before .before .if3 .taken) (c .before .if4 .left) (λ e. c .if5 .left (omega arith)),
+      tt,
+    )
+
+returns-6 : tie.Need-returns-6
+unfolding Onward
+returns-6 c =
+    let b = c .before .before .before .before .before .before in (
+      λ s room.
+          after-else (b .args .job .now) (b .args .p) (b .pre .0) (withRows s (b .args .rows .now)) (b .pre .1) (b .pre .3) (b .pre .2) room (omega (arith, b .pre .0 .sound .picked, b .pre .0 .sound .small, b .pre .4))
+          (c .before .if1 .left) (c .if3 .left),
+      tt,
+    )
+
+pub read-after-rows-spec : {M : Type 1} → statement M
+read-after-rows-spec =
+    tie.close
+    (tie.spec
+    shared-slice-read-byte
+    sub-left
+    read-p-requires
+    same-length
+    returns
+    returns-2
+    read-z-requires
+    returns-3
+    read-z-requires-2
+    returns-4
+    returns-5
+    returns-6)

@@ -1,0 +1,88 @@
+-- `read_next` meets its contract.
+use native.Mathlib.Omega.{arith}
+use Rattle.inner_commands.specs.Progress.{Onward}
+use Rattle.inner_commands.specs.Stores.{storesOf}
+use Rattle.inner_standing.proofs.Placing.{at-end}
+use borrow.Author.Needs.{needs}
+use Rattle.inner_standing.proofs.read_next.Statement.{statement}
+use Rattle.inner_standing.proofs.read_next.Tie as tie
+
+returns : tie.Need-returns
+unfolding Onward
+returns c =
+    let b = c .before .before .before .before .before .before .before in
+    (at-end (b .args .job .now) (storesOf (b .args .starts .now) (b .args .columns .now) (b .args .values .now) (b .args .right .now) (b .args .rows .now)) (b .args .p) (c .if1 .taken), tt)
+
+read-first-requires : tie.Need-read-first-requires
+read-first-requires c κs = search needs
+
+returns-2 : tie.Need-returns-2
+returns-2 c =
+    let b = c .before .before .before .before .before .before .before .before .before in (
+      c .read-first .ensures .0 (storesOf (b .args .starts .now) (b .args .columns .now) (b .args .values .now) (b .args .right .now) (b .args .rows .now)),
+      c .read-first .ensures .1,
+    )
+
+read-in-row-requires : tie.Need-read-in-row-requires
+read-in-row-requires c κs = search needs
+
+same-length : tie.Need-same-length
+same-length c = search needs
+
+same-length-2 : tie.Need-same-length-2
+same-length-2 c = search needs
+
+same-length-3 : tie.Need-same-length-3
+same-length-3 c = search needs
+
+same-length-4 : tie.Need-same-length-4
+same-length-4 c = search needs
+
+returns-3 : tie.Need-returns-3
+returns-3 c =
+    let b = c .before .before .before .before .before .before .before .before .before .before .before .before .before .before .before .before .before .before .before .before .before .before in
+    (c .before .before .before .before .before .before .before .before .read-in-row .ensures .0 (b .args .rows .now), c .before .before .before .before .before .before .before .before .read-in-row .ensures .1)
+
+read-between-rows-requires : tie.Need-read-between-rows-requires
+read-between-rows-requires c κs = search needs
+
+returns-4 : tie.Need-returns-4
+returns-4 c =
+    let b = c .before .before .before .before .before .before .before .before .before .before .before in (
+      c .read-between-rows .ensures .0 (storesOf (b .args .starts .now) (b .args .columns .now) (b .args .values .now) (b .args .right .now) (b .args .rows .now))
+          (omega (arith, b .pre .0 .rows-left, b .pre .0 .small, b .pre .2 .right-room)),
+      c .read-between-rows .ensures .1,
+    )
+
+read-after-rows-requires : tie.Need-read-after-rows-requires
+read-after-rows-requires c κs = search needs
+
+same-length-5 : tie.Need-same-length-5
+same-length-5 c = search needs
+
+returns-5 : tie.Need-returns-5
+returns-5 c =
+    let b = c .before .before .before .before .before .before .before .before .before .before .before .before .before .before in (
+      c .before .before .read-after-rows .ensures .0 (storesOf (b .args .starts .now) (b .args .columns .now) (b .args .values .now) (b .args .right .now) (b .args .rows .now))
+          (omega (arith, b .pre .0 .rows-left, b .pre .0 .small, b .pre .2 .right-room)),
+      c .before .before .read-after-rows .ensures .1,
+    )
+
+pub read-next-spec : {M : Type 1} → statement M
+read-next-spec =
+    tie.close
+    (tie.spec
+    returns
+    read-first-requires
+    returns-2
+    read-in-row-requires
+    same-length
+    same-length-2
+    same-length-3
+    same-length-4
+    returns-3
+    read-between-rows-requires
+    returns-4
+    read-after-rows-requires
+    same-length-5
+    returns-5)

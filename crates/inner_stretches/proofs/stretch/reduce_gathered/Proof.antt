@@ -1,0 +1,99 @@
+-- `reduce_gathered` meets its contract: the loop is that of `reduce_stretch`, over what the subscripts find.
+use mathlib.Core.Logic.{⊎-elim}
+use mathlib.Core.Path.{_≡_, sym, _∙_}
+use Prim.Native.Nat.{_≤_, _-_}
+use native.Mathlib.Omega.{arith}
+use lib.Ieee.{nan, ofBits}
+use lib.ListN.{length, getD}
+use borrow.Author.Needs.{needs}
+use Rattle.inner_stretches.specs.Stretches.{gathered}
+use Rattle.inner_slots.proofs.Flags.{flag-set, flag-left}
+use Rattle.inner_stretches.proofs.Reducing.{Reducing, reducing-start, reducing-turn, reducing-end, kept-zero, taken-off, length-gathered, gathered-at, below-at}
+use Rattle.inner_stretches.proofs.stretch.reduce_gathered.Statement.{statement}
+use Rattle.inner_stretches.proofs.stretch.reduce_gathered.Tie as tie
+
+abbrev Inv-loop : tie.InvT-loop
+Inv-loop y₀ subs dense m flag bad₀ q₀ y bad q = (q ≤ length subs) × (length y ≡ length subs) × (length y₀ ≡ length subs) × Reducing m (gathered dense subs) y₀ y flag bad q
+
+abbrev μ-loop : tie.MeasureT-loop
+μ-loop y₀ subs dense m flag bad₀ q₀ y bad q = length subs - q
+
+loop-holds : tie.Need-loop-holds Inv-loop μ-loop
+loop-holds c = (search needs, search needs, search needs, reducing-start _ _ _ _)
+
+mul-x : tie.Need-mul-x Inv-loop μ-loop
+mul-x c = search needs
+
+shared-slice-read-x : tie.Need-shared-slice-read-x Inv-loop μ-loop
+shared-slice-read-x c = search needs
+
+mul-u : tie.Need-mul-u Inv-loop μ-loop
+mul-u c = let b = c .before .before in let h = below-at _ _ (b .before .pre .2) (b .loop .q) (search needs) in search needs
+
+shared-slice-read-u : tie.Need-shared-slice-read-u Inv-loop μ-loop
+shared-slice-read-u c = let b = c .before .before .before in below-at _ _ (b .before .pre .2) (b .loop .q) (search needs)
+
+mul-old : tie.Need-mul-old Inv-loop μ-loop
+mul-old c = search needs
+
+slice-read-old : tie.Need-slice-read-old Inv-loop μ-loop
+slice-read-old c = search needs
+
+mul-y : tie.Need-mul-y Inv-loop μ-loop
+mul-y c = search needs
+
+slice-write-y : tie.Need-slice-write-y Inv-loop μ-loop
+slice-write-y c = search needs
+
+add-q : tie.Need-add-q Inv-loop μ-loop
+add-q c = search needs
+
+loop-less : tie.Need-loop-less Inv-loop μ-loop
+loop-less c = search needs
+
+loop-again : tie.Need-loop-again Inv-loop μ-loop
+unfolding ofBits
+loop-again c =
+    let b = c .before .before .before .before .before .before in
+    let l = b .loop in
+    let ss = b .before .args .subs .now in
+    let dd = b .before .args .dense .now in
+    let lg = length-gathered dd ss in
+    let at : getD (gathered dd ss) (l .q) nan ≡ getD dd (getD ss (l .q) 0) nan = gathered-at dd ss (l .q) (search needs) in (
+      search needs,
+      search needs,
+      search needs,
+      reducing-turn (b .before .args .m) _ _ _ _ _ _ (l .inv .3) (l .inv .2 ∙ sym lg) (omega (arith, lg)) _ _
+          (rw at (⊎-elim (λ x. x .1 ∙ kept-zero _ _ _ (x .0 .taken)) (λ x. x .1 ∙ taken-off _ _ _ (b .before .pre .1) (x .0 .left)) (c .before .if1 .came)))
+          (⊎-elim (λ x. x .1 ∙ flag-set _ _ (x .0 .taken)) (λ x. x .1 ∙ flag-left _ _ (x .0 .left)) (c .if2 .came)),
+    )
+
+same-length : tie.Need-same-length Inv-loop μ-loop
+same-length c = search needs
+
+returns : tie.Need-returns Inv-loop μ-loop
+returns c =
+    let l = c .before .loop in
+    let lg = length-gathered (c .before .before .args .dense .now) (c .before .before .args .subs .now) in
+    reducing-end _ _ _ _ _ _ _ (l .inv .3) (l .inv .2 ∙ sym lg) (omega (arith, lg))
+
+pub reduce-gathered-spec : {M : Type 1} → statement M
+reduce-gathered-spec =
+    tie.close
+    (tie.spec
+    Inv-loop
+    μ-loop
+    loop-holds
+    mul-x
+    shared-slice-read-x
+    mul-u
+    shared-slice-read-u
+    mul-old
+    slice-read-old
+    mul-y
+    slice-write-y
+    add-q
+    loop-less
+    loop-again
+    same-length
+    returns)

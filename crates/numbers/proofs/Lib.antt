@@ -1,0 +1,3 @@
+-- Laws of lists that are laid into a store, and of refusals.
+pub mod Laid
+pub mod Retold

@@ -1,0 +1,43 @@
+-- `counts_from` meets its contract: each count is the number at its place.
+use Rattle.numbers.specs.Numbered.{countsFrom}
+use borrow.Author.Needs.{needs}
+use Rattle.numbers.proofs.reading.counts_from.Statement.{statement}
+use Rattle.numbers.proofs.reading.counts_from.Tie as tie
+
+number-at-requires : tie.Need-number-at-requires
+number-at-requires c κs = search needs
+
+number-at-requires-2 : tie.Need-number-at-requires-2
+number-at-requires-2 c κs = search needs
+
+number-at-requires-3 : tie.Need-number-at-requires-3
+number-at-requires-3 c κs = search needs
+
+number-at-requires-4 : tie.Need-number-at-requires-4
+number-at-requires-4 c κs = search needs
+
+number-at-requires-5 : tie.Need-number-at-requires-5
+number-at-requires-5 c κs = search needs
+
+number-at-requires-6 : tie.Need-number-at-requires-6
+number-at-requires-6 c κs = search needs
+
+number-at-requires-7 : tie.Need-number-at-requires-7
+number-at-requires-7 c κs = search needs
+
+returns : tie.Need-returns
+unfolding countsFrom
+returns c = rw (c .number-at7 .ensures, c .before .number-at6 .ensures, c .before .before .number-at5 .ensures, c .before .before .before .number-at4 .ensures, c .before .before .before .before .number-at3 .ensures, c .before .before .before .before .before .number-at2 .ensures, c .before .before .before .before .before .before .number-at .ensures)
+
+pub counts-from-spec : {M : Type 1} → statement M
+counts-from-spec =
+    tie.close
+    (tie.spec
+    number-at-requires
+    number-at-requires-2
+    number-at-requires-3
+    number-at-requires-4
+    number-at-requires-5
+    number-at-requires-6
+    number-at-requires-7
+    returns)

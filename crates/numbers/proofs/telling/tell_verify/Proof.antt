@@ -1,0 +1,50 @@
+-- `tell_verify` meets its contract, case by case.
+use Rattle.answers.specs.Answers.{verifyAnswerOf}
+use Rattle.numbers.specs.Numbered.{refusalNumber, numbersOf, verifyNumbers}
+use Rattle.numbers.proofs.Retold.{retold}
+use borrow.Author.Needs.{needs}
+use Rattle.numbers.proofs.telling.tell_verify.Statement.{statement}
+use Rattle.numbers.proofs.telling.tell_verify.Tie as tie
+
+enum-told : tie.Need-enum-told
+enum-told c = search needs
+
+put-refusal-requires : tie.Need-put-refusal-requires
+put-refusal-requires c κs = search needs
+
+enum-known-answered : tie.Need-enum-known-answered
+enum-known-answered c = search needs
+
+tell-requires : tie.Need-tell-requires
+tell-requires c κs = search needs
+
+put-refusal-requires-2 : tie.Need-put-refusal-requires-2
+put-refusal-requires-2 c κs = search needs
+
+same-length : tie.Need-same-length
+same-length c = search needs
+
+returns : tie.Need-returns
+unfolding verifyAnswerOf refusalNumber verifyNumbers numbersOf
+returns c = rw (c .before .before .before .before .enum-told .given .1) (c .before .before .put-refusal .ensures)
+
+same-length-2 : tie.Need-same-length-2
+same-length-2 c = search needs
+
+returns-2 : tie.Need-returns-2
+unfolding verifyAnswerOf refusalNumber verifyNumbers numbersOf
+returns-2 c = rw (c .before .before .before .before .before .before .answered .given .1, ← retold _ _ (c .before .before .before .before .tell .ensures)) (c .before .before .put-refusal2 .ensures)
+
+pub tell-verify-spec : {M : Type 1} → statement M
+tell-verify-spec =
+    tie.close
+    (tie.spec
+    enum-told
+    put-refusal-requires
+    enum-known-answered
+    tell-requires
+    put-refusal-requires-2
+    same-length
+    returns
+    same-length-2
+    returns-2)

@@ -1,0 +1,2 @@
+-- Answers as numbers, and numbers as what the calls take.
+pub mod Numbered

@@ -1,0 +1,62 @@
+-- What an answer is in numbers, what a lent store holds of them, and what numbers are read as.
+use mathlib.Core.Bool.{cond}
+use mathlib.Core.List.{List, [], _∷_}
+use Prim.Native.Nat.{ℕ}
+use lib.Dec.{eqb}
+use lib.ListN.{getD, take}
+use Rattle.lists.specs.Functions.{padded}
+use Rattle.foundation.specs.Answer.{Answer, refused, granted}
+use Rattle.foundation.specs.PlanCall.{Counts}
+use Rattle.foundation.specs.Reference.{Extent, whole, cut}
+use Rattle.foundation.specs.Tally.{keptSum}
+use Rattle.answers.specs.Answers.{counted}
+use Rattle.numbers.specs.declared.refusals.Told.{Told}
+
+-- a refusal of planning by its number and step
+unfoldable pub toldOf : Told → Answer Counts
+toldOf t = refused (t .number) (t .step)
+
+module _ {ℓ} {A : Type ℓ} where
+  -- Document 01, "Where each refusal is checked": "A refusal carries its number and its step". 0 is no refusal's number.
+  unfoldable pub refusalNumber : Answer A → ℕ
+  refusalNumber (refused number step) = number
+  refusalNumber (granted v) = 0
+
+  unfoldable pub refusalStep : Answer A → ℕ
+  refusalStep (refused number step) = step
+  refusalStep (granted v) = 0
+
+  -- an answer in numbers: 0, 0 and the values, or the refusal's number and step
+  unfoldable pub numbersOf : (A → List ℕ) → Answer A → List ℕ
+  numbersOf values (refused number step) = number ∷ step ∷ []
+  numbersOf values (granted v) = 0 ∷ 0 ∷ values v
+
+-- "Plan: n, entries, L and U subscripts, L and U slots, reads."
+unfoldable pub countNumbers : Counts → List ℕ
+countNumbers c = c .n ∷ c .entries ∷ c .lowerSubscripts ∷ c .upperSubscripts ∷ c .lowerSlots ∷ c .upperSlots ∷ c .reads ∷ []
+
+-- the answers of planning, about a lent plan, and of a run
+unfoldable pub planNumbers : Answer Counts → List ℕ
+planNumbers = numbersOf countNumbers
+
+unfoldable pub verifyNumbers : Answer (Unit {0}) → List ℕ
+verifyNumbers = numbersOf (λ v. [])
+
+unfoldable pub runNumbers : Answer ℕ → List ℕ
+runNumbers = numbersOf (λ updates. updates ∷ [])
+
+-- The tally's answer, and the sum that it has afterwards: "the tally, which is no result store, keeps its old sum".
+unfoldable pub tallyNumbers : ℕ → Answer ℕ → List ℕ
+tallyNumbers sum a = refusalNumber a ∷ refusalStep a ∷ keptSum sum a ∷ []
+
+-- What a lent store of `room` places holds of a list: as much as there is room for, and 0 behind it.
+unfoldable pub laid : ℕ → List ℕ → List ℕ
+laid room xs = take room (padded 0 room xs)
+
+-- the seven counts, in the order in which they are told; missing ones are 0, further ones are not read
+unfoldable pub countsFrom : List ℕ → Counts
+countsFrom xs = counted (getD xs 0 0) (getD xs 1 0) (getD xs 2 0) (getD xs 3 0) (getD xs 4 0) (getD xs 5 0) (getD xs 6 0)
+
+-- "A run may be cut to its first s steps": whole where `shorter` is 0
+unfoldable pub extentFrom : ℕ → ℕ → Extent
+extentFrom shorter steps = cond (eqb shorter 0) whole (cut steps)

@@ -1,0 +1,19 @@
+// Document 01's numbers: of each answer, the list of numbers that it is for a caller in another language, written into a store that the caller lends; and
+// numbers that such a caller gives, as the types that the calls take.
+//
+// Every function takes any numbers and stores of any length.
+mod laying;
+mod reading;
+mod refusals;
+mod telling;
+
+pub use laying::put_bytes;
+pub use reading::counts_from;
+pub use reading::extent_from;
+pub use refusals::Told;
+pub use refusals::number_of;
+pub use refusals::tell;
+pub use telling::tell_plan;
+pub use telling::tell_run;
+pub use telling::tell_tally;
+pub use telling::tell_verify;

@@ -1,0 +1,50 @@
+// Document 01's numbers of what planning and the run refuse.
+ghost use mathlib.Core.Path.{_≡_};
+ghost use Rattle.answers.specs.Answers.{refusalOf};
+ghost use Rattle.answers.specs.Runs.{reasonNumber};
+ghost use Rattle.numbers.specs.Numbered.{toldOf};
+use answers::Refusal;
+use answers::RunReason;
+
+// A refusal's number and step.
+pub struct Told {
+    pub number: usize,
+    pub step: usize,
+}
+
+// The number and step of what planning refuses.
+pub fn tell(r: Refusal) -> Told
+    ensures { λ t. ⌜ toldOf t ≡ refusalOf r ⌝ }
+{
+    match r {
+        Refusal::Limits => Told { number: 1, step: 0 },
+        Refusal::Starts => Told { number: 2, step: 0 },
+        Refusal::Column => Told { number: 3, step: 0 },
+        Refusal::Order => Told { number: 4, step: 0 },
+        Refusal::Diagonal => Told { number: 5, step: 0 },
+        Refusal::Stores => Told { number: 6, step: 0 },
+        Refusal::LowerRoom(step) => Told { number: 7, step },
+        Refusal::UpperRoom(step) => Told { number: 8, step },
+        Refusal::OtherPlan => Told { number: 9, step: 0 },
+    }
+}
+
+// The number of the reason why a run stopped.
+pub fn number_of(reason: RunReason) -> usize
+    ensures { λ r. ⌜ r ≡ reasonNumber reason ⌝ }
+{
+    match reason {
+        RunReason::Limits => 1,
+        RunReason::Starts => 2,
+        RunReason::Column => 3,
+        RunReason::Order => 4,
+        RunReason::Diagonal => 5,
+        RunReason::Stores => 6,
+        RunReason::OtherPlan => 9,
+        RunReason::Lending => 10,
+        RunReason::Values => 11,
+        RunReason::RowList => 12,
+        RunReason::NoPivot => 13,
+        RunReason::NotFinite => 14,
+    }
+}

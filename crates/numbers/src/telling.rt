@@ -1,0 +1,96 @@
+// Each answer told in numbers: 0, 0 and the values, or the refusal's number and step. The refusal's number, 0 if there is none, is returned too.
+ghost use mathlib.Core.Path.{_≡_};
+ghost use lib.ListN.{length};
+ghost use Rattle.answers.specs.Answers.{answerOf, verifyAnswerOf};
+ghost use Rattle.answers.specs.Runs.{runAnswerOf};
+ghost use Rattle.tally.specs.Calls.{answerOf as tallyAnswerOf};
+ghost use Rattle.numbers.specs.Numbered.{laid, refusalNumber, planNumbers, verifyNumbers, runNumbers, tallyNumbers};
+use crate::laying::put;
+use crate::laying::put_refusal;
+use crate::refusals::number_of;
+use crate::refusals::tell;
+use answers::PlanAnswer;
+use answers::RunAnswer;
+use answers::RunOutcome;
+use answers::VerifyAnswer;
+use tally::TallyAnswer;
+
+// Nine numbers: 0, 0 and the seven counts, or the refusal.
+pub fn tell_plan(answered: PlanAnswer, answer: &mut [usize]) -> usize
+    ensures returned { λ r. ⌜ r ≡ refusalNumber (answerOf answered) ⌝ }
+    ensures told { λ r. ⌜ now (answer .exit) ≡ laid (length (now (answer .entry))) (planNumbers (answerOf answered)) ⌝ }
+{
+    match answered {
+        PlanAnswer::Planned(c) => {
+            let numbers = [
+                0,
+                0,
+                c.n,
+                c.entries,
+                c.l_subscripts,
+                c.u_subscripts,
+                c.l_slots,
+                c.u_slots,
+                c.reads,
+            ];
+            put(&numbers, answer);
+            0
+        }
+        PlanAnswer::Refused(refusal) => {
+            let told = tell(refusal);
+            put_refusal(told.number, told.step, answer)
+        }
+    }
+}
+
+// Two numbers: 0 and 0, or the refusal.
+pub fn tell_verify(answered: VerifyAnswer, answer: &mut [usize]) -> usize
+    ensures returned { λ r. ⌜ r ≡ refusalNumber (verifyAnswerOf answered) ⌝ }
+    ensures told { λ r. ⌜ now (answer .exit) ≡ laid (length (now (answer .entry))) (verifyNumbers (verifyAnswerOf answered)) ⌝ }
+{
+    match answered {
+        VerifyAnswer::Agrees => put_refusal(0, 0, answer),
+        VerifyAnswer::Refused(refusal) => {
+            let told = tell(refusal);
+            put_refusal(told.number, told.step, answer)
+        }
+    }
+}
+
+// Three numbers: 0, 0 and the updates, or the refusal.
+pub fn tell_run(answered: RunAnswer, answer: &mut [usize]) -> usize
+    ensures returned { λ r. ⌜ r ≡ refusalNumber (runAnswerOf answered) ⌝ }
+    ensures told { λ r. ⌜ now (answer .exit) ≡ laid (length (now (answer .entry))) (runNumbers (runAnswerOf answered)) ⌝ }
+{
+    let outcome = answered.outcome;
+    match outcome {
+        RunOutcome::Finished(updates) => {
+            let numbers = [0, 0, updates];
+            put(&numbers, answer);
+            0
+        }
+        RunOutcome::Stopped(reason, step) => {
+            let number = number_of(reason);
+            put_refusal(number, step, answer)
+        }
+    }
+}
+
+// Three numbers: 0, 0 and the new sum, or 19, 0 and the old one, which the tally keeps.
+pub fn tell_tally(sum: u32, answered: TallyAnswer, answer: &mut [usize]) -> usize
+    ensures returned { λ r. ⌜ r ≡ refusalNumber (tallyAnswerOf answered) ⌝ }
+    ensures told { λ r. ⌜ now (answer .exit) ≡ laid (length (now (answer .entry))) (tallyNumbers sum (tallyAnswerOf answered)) ⌝ }
+{
+    match answered {
+        TallyAnswer::Sum(new) => {
+            let numbers = [0, 0, new as usize];
+            put(&numbers, answer);
+            0
+        }
+        TallyAnswer::Full => {
+            let numbers = [19, 0, sum as usize];
+            put(&numbers, answer);
+            19
+        }
+    }
+}

@@ -1,0 +1,376 @@
+! Dalumiveth for Fortran 2003: sparse Gaussian elimination with row interchanges, in storage slots that are counted beforehand
+! from the pattern alone.
+!
+!   Counting   Rows, columns and steps count from 1. What the stores hold counts places from 0, as in the papers and in C: a row
+!              start 0 means the first column number, which is columns(1) here.
+!   Kinds      Numbers are integer(dlm_size) (C's size_t; every legal one is small), reals are real(dlm_real) (C's double).
+!   Stores     Allocatable. The caller allocates those of the pattern; dlm_make_plan (also one that refuses) and the runs give the others
+!              the lengths that they need. A run wants a plan that dlm_make_plan has seen.
+!   Refusals   answer%refusal is 0, or the number of a refusal: then all results are zero, and dlm_sentence has its sentence.
+!   Proved     The functions dalumiveth_*, which the library exports, for all inputs. The procedures dlm_* of this module put types
+!              around them; they are not proved.
+!
+! The short way: fill pattern%n, pattern%starts, pattern%columns; then
+!
+!   answer = dlm_make_plan(pattern, plan, work)
+!   answer = dlm_run_largest(pattern, plan, values, right, factor, work)                  the solution is factor%x
+module dalumiveth
+  use, intrinsic :: iso_c_binding, only: c_size_t, c_double, c_int32_t, c_int8_t
+  implicit none
+  private
+  public :: dlm_make_plan, dlm_verify_plan, dlm_run_largest, dlm_run_listed, dlm_tally_add, dlm_sentence
+  public :: dalumiveth_plan, dalumiveth_verify, dalumiveth_run_largest, dalumiveth_run_listed, dalumiveth_tally_add, dalumiveth_job
+
+  integer, parameter, public :: dlm_size = c_size_t, dlm_real = c_double
+  integer(dlm_size), parameter :: most_rows = 1024
+
+  ! Where entries may stand, row after row.
+  type, public :: dlm_pattern
+    integer(dlm_size) :: n = 0                         ! rows and columns, 1 to 1,024
+    integer(dlm_size), allocatable :: starts(:)        ! n+1: the first is 0, the last the number of entries
+    integer(dlm_size), allocatable :: columns(:)       ! column numbers from 1, strictly ascending in a row, the diagonal among them
+  end type
+
+  ! A plan. The list of step k on a side has slots(k+1) - slots(k) members, from subs(starts(k) + 1) on.
+  type, public :: dlm_plan
+    integer(dlm_size) :: counts(7) = 0                 ! n, entries, L and U subscripts, L and U slots, reads
+    integer(dlm_size), allocatable :: l_subs(:), l_starts(:), l_slots(:)   ! counts(3), n, n+1
+    integer(dlm_size), allocatable :: u_subs(:), u_starts(:), u_slots(:)   ! counts(4), n, n+1
+  end type
+
+  ! Room that calls work in; zeros after each.
+  type, public :: dlm_work
+    integer(dlm_size), allocatable :: row_heads(:), row_links(:), set_heads(:), set_links(:)   ! n+1 each
+    integer(dlm_size), allocatable :: list(:), spare(:)                                        ! n each
+    real(dlm_real), allocatable :: copy(:), dense(:)                                           ! n, n+1
+  end type
+
+  ! What a run leaves. After a cut run x is the right side as it then is.
+  type, public :: dlm_factor
+    real(dlm_real), allocatable :: l(:), u(:)          ! the planned slots: multipliers, and the rows of U beyond the diagonal
+    real(dlm_real), allocatable :: d(:), x(:)          ! n each: the diagonal, the solution
+    integer(dlm_size), allocatable :: pivots(:)        ! n: the pivot row of each step done, then 0
+    integer(dlm_size) :: updates = 0                   ! subtractions in the matrix
+  end type
+
+  type, public :: dlm_answer
+    integer(dlm_size) :: refusal = 0                   ! 0: none
+    integer(dlm_size) :: step = 0                      ! with 7, 8, 13 and 14
+  end type
+
+  ! The exported functions. Each store is followed by its length; `answer` receives number, step and values.
+  interface
+    function dalumiveth_plan(most, n, starts, starts_length, columns, columns_length, &
+        l_subs, l_subs_length, l_starts, l_starts_length, l_slots, l_slots_length, &
+        u_subs, u_subs_length, u_starts, u_starts_length, u_slots, u_slots_length, &
+        row_heads, row_heads_length, row_links, row_links_length, set_heads, set_heads_length, set_links, set_links_length, &
+        list, list_length, spare, spare_length, answer, answer_length) result(number) bind(c)
+      import :: c_size_t
+      integer(c_size_t), value :: most, n, starts_length, columns_length
+      integer(c_size_t), value :: l_subs_length, l_starts_length, l_slots_length, u_subs_length, u_starts_length, u_slots_length
+      integer(c_size_t), value :: row_heads_length, row_links_length, set_heads_length, set_links_length, list_length, spare_length
+      integer(c_size_t), value :: answer_length
+      integer(c_size_t), intent(in) :: starts(*), columns(*)
+      integer(c_size_t), intent(inout) :: l_subs(*), l_starts(*), l_slots(*), u_subs(*), u_starts(*), u_slots(*)
+      integer(c_size_t), intent(inout) :: row_heads(*), row_links(*), set_heads(*), set_links(*), list(*), spare(*), answer(*)
+      integer(c_size_t) :: number
+    end function
+
+    function dalumiveth_verify(most, n, starts, starts_length, columns, columns_length, counts, counts_length, &
+        l_subs, l_subs_length, l_starts, l_starts_length, l_slots, l_slots_length, &
+        u_subs, u_subs_length, u_starts, u_starts_length, u_slots, u_slots_length, &
+        row_heads, row_heads_length, row_links, row_links_length, set_heads, set_heads_length, set_links, set_links_length, &
+        list, list_length, spare, spare_length, answer, answer_length) result(number) bind(c)
+      import :: c_size_t
+      integer(c_size_t), value :: most, n, starts_length, columns_length, counts_length
+      integer(c_size_t), value :: l_subs_length, l_starts_length, l_slots_length, u_subs_length, u_starts_length, u_slots_length
+      integer(c_size_t), value :: row_heads_length, row_links_length, set_heads_length, set_links_length, list_length, spare_length
+      integer(c_size_t), value :: answer_length
+      integer(c_size_t), intent(in) :: starts(*), columns(*), counts(*)
+      integer(c_size_t), intent(in) :: l_subs(*), l_starts(*), l_slots(*), u_subs(*), u_starts(*), u_slots(*)
+      integer(c_size_t), intent(inout) :: row_heads(*), row_links(*), set_heads(*), set_links(*), list(*), spare(*), answer(*)
+      integer(c_size_t) :: number
+    end function
+
+    function dalumiveth_run_largest(most, n, starts, starts_length, columns, columns_length, counts, counts_length, &
+        l_subs, l_subs_length, l_starts, l_starts_length, l_slots, l_slots_length, &
+        u_subs, u_subs_length, u_starts, u_starts_length, u_slots, u_slots_length, &
+        values, values_length, right, right_length, cut, steps, &
+        l, l_length, u, u_length, d, d_length, x, x_length, pivots, pivots_length, &
+        row_heads, row_heads_length, row_links, row_links_length, set_heads, set_heads_length, set_links, set_links_length, &
+        list, list_length, spare, spare_length, copy, copy_length, dense, dense_length, answer, answer_length) &
+        result(number) bind(c)
+      import :: c_size_t, c_double
+      integer(c_size_t), value :: most, n, starts_length, columns_length, counts_length
+      integer(c_size_t), value :: l_subs_length, l_starts_length, l_slots_length, u_subs_length, u_starts_length, u_slots_length
+      integer(c_size_t), value :: values_length, right_length, cut, steps
+      integer(c_size_t), value :: l_length, u_length, d_length, x_length, pivots_length
+      integer(c_size_t), value :: row_heads_length, row_links_length, set_heads_length, set_links_length, list_length, spare_length
+      integer(c_size_t), value :: copy_length, dense_length, answer_length
+      integer(c_size_t), intent(in) :: starts(*), columns(*), counts(*)
+      integer(c_size_t), intent(in) :: l_subs(*), l_starts(*), l_slots(*), u_subs(*), u_starts(*), u_slots(*)
+      real(c_double), intent(in) :: values(*), right(*)
+      real(c_double), intent(inout) :: l(*), u(*), d(*), x(*), copy(*), dense(*)
+      integer(c_size_t), intent(inout) :: pivots(*), answer(*)
+      integer(c_size_t), intent(inout) :: row_heads(*), row_links(*), set_heads(*), set_links(*), list(*), spare(*)
+      integer(c_size_t) :: number
+    end function
+
+    function dalumiveth_run_listed(most, n, starts, starts_length, columns, columns_length, counts, counts_length, &
+        l_subs, l_subs_length, l_starts, l_starts_length, l_slots, l_slots_length, &
+        u_subs, u_subs_length, u_starts, u_starts_length, u_slots, u_slots_length, &
+        values, values_length, right, right_length, rows, rows_length, cut, steps, &
+        l, l_length, u, u_length, d, d_length, x, x_length, pivots, pivots_length, &
+        row_heads, row_heads_length, row_links, row_links_length, set_heads, set_heads_length, set_links, set_links_length, &
+        list, list_length, spare, spare_length, copy, copy_length, dense, dense_length, answer, answer_length) &
+        result(number) bind(c)
+      import :: c_size_t, c_double
+      integer(c_size_t), value :: most, n, starts_length, columns_length, counts_length
+      integer(c_size_t), value :: l_subs_length, l_starts_length, l_slots_length, u_subs_length, u_starts_length, u_slots_length
+      integer(c_size_t), value :: values_length, right_length, rows_length, cut, steps
+      integer(c_size_t), value :: l_length, u_length, d_length, x_length, pivots_length
+      integer(c_size_t), value :: row_heads_length, row_links_length, set_heads_length, set_links_length, list_length, spare_length
+      integer(c_size_t), value :: copy_length, dense_length, answer_length
+      integer(c_size_t), intent(in) :: starts(*), columns(*), counts(*), rows(*)
+      integer(c_size_t), intent(in) :: l_subs(*), l_starts(*), l_slots(*), u_subs(*), u_starts(*), u_slots(*)
+      real(c_double), intent(in) :: values(*), right(*)
+      real(c_double), intent(inout) :: l(*), u(*), d(*), x(*), copy(*), dense(*)
+      integer(c_size_t), intent(inout) :: pivots(*), answer(*)
+      integer(c_size_t), intent(inout) :: row_heads(*), row_links(*), set_heads(*), set_links(*), list(*), spare(*)
+      integer(c_size_t) :: number
+    end function
+
+    ! `sum` has the bits of an unsigned number of 32 bits; answer(3) is the sum afterwards.
+    function dalumiveth_tally_add(sum, updates, answer, answer_length) result(number) bind(c)
+      import :: c_size_t, c_int32_t
+      integer(c_int32_t), value :: sum
+      integer(c_size_t), value :: updates, answer_length
+      integer(c_size_t), intent(inout) :: answer(*)
+      integer(c_size_t) :: number
+    end function
+
+    ! Bytes to bytes: 8,192 places of `out` hold the answer to any job. Returns how many are printed.
+    function dalumiveth_job(job, job_length, out, out_length) result(printed) bind(c)
+      import :: c_size_t, c_int8_t
+      integer(c_size_t), value :: job_length, out_length
+      integer(c_int8_t), intent(in) :: job(*)
+      integer(c_int8_t), intent(inout) :: out(*)
+      integer(c_size_t) :: printed
+    end function
+  end interface
+
+contains
+
+  ! Makes the plan of a pattern; plan and work are given their lengths here. Refuses with 1 to 6. 7 and 8 cannot come about: n(n-1)/2
+  ! subscripts a side are always enough (proved), and what is not used is given back.
+  function dlm_make_plan(pattern, plan, work) result(answer)
+    type(dlm_pattern), intent(in) :: pattern
+    type(dlm_plan), intent(inout) :: plan
+    type(dlm_work), intent(inout) :: work
+    type(dlm_answer) :: answer
+    integer(dlm_size) :: n, room, numbers(9), number
+    n = max(0_dlm_size, min(pattern%n, most_rows))     ! stores for a refused n are never used
+    room = n * (n - 1) / 2
+    call make_plan_stores(plan, n, room)
+    call make_work(work, n)
+    number = dalumiveth_plan(most_rows, pattern%n, pattern%starts, size(pattern%starts, kind=dlm_size), &
+        pattern%columns, size(pattern%columns, kind=dlm_size), plan%l_subs, room, plan%l_starts, n, plan%l_slots, n + 1, &
+        plan%u_subs, room, plan%u_starts, n, plan%u_slots, n + 1, work%row_heads, n + 1, work%row_links, n + 1, &
+        work%set_heads, n + 1, work%set_links, n + 1, work%list, n, work%spare, n, numbers, 9_dlm_size)
+    answer = dlm_answer(number, numbers(2))
+    plan%counts = numbers(3:9)
+    plan%l_subs = plan%l_subs(1:plan%counts(3))
+    plan%u_subs = plan%u_subs(1:plan%counts(4))
+  end function
+
+  ! Says whether a plan, made here or elsewhere, is this pattern's: 0, 1 to 6 or 9.
+  function dlm_verify_plan(pattern, plan, work) result(answer)
+    type(dlm_pattern), intent(in) :: pattern
+    type(dlm_plan), intent(in) :: plan
+    type(dlm_work), intent(inout) :: work
+    type(dlm_answer) :: answer
+    integer(dlm_size) :: n, numbers(2), number
+    n = max(0_dlm_size, min(pattern%n, most_rows))
+    call make_work(work, n)
+    number = dalumiveth_verify(most_rows, pattern%n, pattern%starts, size(pattern%starts, kind=dlm_size), &
+        pattern%columns, size(pattern%columns, kind=dlm_size), plan%counts, 7_dlm_size, &
+        plan%l_subs, size(plan%l_subs, kind=dlm_size), plan%l_starts, size(plan%l_starts, kind=dlm_size), &
+        plan%l_slots, size(plan%l_slots, kind=dlm_size), plan%u_subs, size(plan%u_subs, kind=dlm_size), &
+        plan%u_starts, size(plan%u_starts, kind=dlm_size), plan%u_slots, size(plan%u_slots, kind=dlm_size), &
+        work%row_heads, n + 1, work%row_links, n + 1, work%set_heads, n + 1, work%set_links, n + 1, work%list, n, work%spare, n, &
+        numbers, 2_dlm_size)
+    answer = dlm_answer(number, numbers(2))
+  end function
+
+  ! Eliminates and solves by the largest entry of each column; with `steps`, the first so many steps alone. Refuses with 1 to 6 and 9 to 14.
+  function dlm_run_largest(pattern, plan, values, right, factor, work, steps) result(answer)
+    type(dlm_pattern), intent(in) :: pattern
+    type(dlm_plan), intent(in) :: plan
+    real(dlm_real), intent(in) :: values(:), right(:)
+    type(dlm_factor), intent(inout) :: factor
+    type(dlm_work), intent(inout) :: work
+    integer(dlm_size), intent(in), optional :: steps
+    type(dlm_answer) :: answer
+    integer(dlm_size) :: n, numbers(3), number
+    n = max(0_dlm_size, min(pattern%n, most_rows))
+    call make_work(work, n)
+    call make_factor(factor, plan, n)
+    number = dalumiveth_run_largest(most_rows, pattern%n, pattern%starts, size(pattern%starts, kind=dlm_size), &
+        pattern%columns, size(pattern%columns, kind=dlm_size), plan%counts, 7_dlm_size, &
+        plan%l_subs, size(plan%l_subs, kind=dlm_size), plan%l_starts, size(plan%l_starts, kind=dlm_size), &
+        plan%l_slots, size(plan%l_slots, kind=dlm_size), plan%u_subs, size(plan%u_subs, kind=dlm_size), &
+        plan%u_starts, size(plan%u_starts, kind=dlm_size), plan%u_slots, size(plan%u_slots, kind=dlm_size), &
+        values, size(values, kind=dlm_size), right, size(right, kind=dlm_size), is_cut(steps), steps_of(steps), &
+        factor%l, size(factor%l, kind=dlm_size), factor%u, size(factor%u, kind=dlm_size), factor%d, n, factor%x, n, &
+        factor%pivots, n, work%row_heads, n + 1, work%row_links, n + 1, work%set_heads, n + 1, work%set_links, n + 1, &
+        work%list, n, work%spare, n, work%copy, n, work%dense, n + 1, numbers, 3_dlm_size)
+    answer = dlm_answer(number, numbers(2))
+    factor%updates = numbers(3)
+  end function
+
+  ! The same with the pivot row of step k given as rows(k), from k to n.
+  function dlm_run_listed(pattern, plan, values, right, rows, factor, work, steps) result(answer)
+    type(dlm_pattern), intent(in) :: pattern
+    type(dlm_plan), intent(in) :: plan
+    real(dlm_real), intent(in) :: values(:), right(:)
+    integer(dlm_size), intent(in) :: rows(:)
+    type(dlm_factor), intent(inout) :: factor
+    type(dlm_work), intent(inout) :: work
+    integer(dlm_size), intent(in), optional :: steps
+    type(dlm_answer) :: answer
+    integer(dlm_size) :: n, numbers(3), number
+    n = max(0_dlm_size, min(pattern%n, most_rows))
+    call make_work(work, n)
+    call make_factor(factor, plan, n)
+    number = dalumiveth_run_listed(most_rows, pattern%n, pattern%starts, size(pattern%starts, kind=dlm_size), &
+        pattern%columns, size(pattern%columns, kind=dlm_size), plan%counts, 7_dlm_size, &
+        plan%l_subs, size(plan%l_subs, kind=dlm_size), plan%l_starts, size(plan%l_starts, kind=dlm_size), &
+        plan%l_slots, size(plan%l_slots, kind=dlm_size), plan%u_subs, size(plan%u_subs, kind=dlm_size), &
+        plan%u_starts, size(plan%u_starts, kind=dlm_size), plan%u_slots, size(plan%u_slots, kind=dlm_size), &
+        values, size(values, kind=dlm_size), right, size(right, kind=dlm_size), rows, size(rows, kind=dlm_size), &
+        is_cut(steps), steps_of(steps), &
+        factor%l, size(factor%l, kind=dlm_size), factor%u, size(factor%u, kind=dlm_size), factor%d, n, factor%x, n, &
+        factor%pivots, n, work%row_heads, n + 1, work%row_links, n + 1, work%set_heads, n + 1, work%set_links, n + 1, &
+        work%list, n, work%spare, n, work%copy, n, work%dense, n + 1, numbers, 3_dlm_size)
+    answer = dlm_answer(number, numbers(2))
+    factor%updates = numbers(3)
+  end function
+
+  ! Adds the updates of a finished run to a tally of 0 to 4,294,967,295 that stays with the caller. 19: the tally keeps its sum. A tally
+  ! out of that range, which no call leaves, counts as full.
+  function dlm_tally_add(tally, updates) result(answer)
+    integer(dlm_size), intent(inout) :: tally
+    integer(dlm_size), intent(in) :: updates
+    type(dlm_answer) :: answer
+    integer(dlm_size), parameter :: largest = 4294967295_dlm_size, half = 2147483648_dlm_size
+    integer(dlm_size) :: numbers(3), number
+    if (tally < 0 .or. tally > largest) then
+      answer = dlm_answer(19, 0)
+      return
+    end if
+    number = dalumiveth_tally_add(int(modulo(tally + half, 2 * half) - half, c_int32_t), updates, numbers, 3_dlm_size)
+    answer = dlm_answer(number, numbers(2))
+    tally = numbers(3)
+  end function
+
+  ! The sentence of a refusal's number, without a full stop.
+  function dlm_sentence(number) result(sentence)
+    integer(dlm_size), intent(in) :: number
+    character(len=:), allocatable :: sentence
+    select case (number)
+    case (0); sentence = "no refusal"
+    case (1); sentence = "n is 0 or above 1,024, or there are more than 16,384 entries"
+    case (2); sentence = "the row starts are not n+1, do not begin with 0, fall, or do not end with the number of entries"
+    case (3); sentence = "a column is outside 1 to n"
+    case (4); sentence = "the columns of a row do not ascend strictly"
+    case (5); sentence = "a row lacks its diagonal"
+    case (6); sentence = "a starts store of the plan, or a work store, has a wrong length"
+    case (7); sentence = "an L subscript does not fit into its store"
+    case (8); sentence = "a U subscript does not fit into its store"
+    case (9); sentence = "the lent plan is not this pattern's: some count, start or used subscript differs"
+    case (10); sentence = "values are not as many as entries, right side, x, pivots or d not n, or slots fewer than planned"
+    case (11); sentence = "a value or right side is not finite"
+    case (12); sentence = "the row list is not n long, its row k is below k or above n, or the run is cut to more than n steps"
+    case (13); sentence = "no row from the step on, or not the listed row, has a nonzero entry in the step's column"
+    case (14); sentence = "a quotient, product or difference is not finite"
+    case (15); sentence = "job: a command byte is unknown or stands where it may not, or R names another row than the next"
+    case (16); sentence = "job: the bytes end inside or before a command"
+    case (17); sentence = "job: bytes follow Z"
+    case (18); sentence = "job: it is over 16,384 bytes"
+    case (19); sentence = "the tally's sum would pass 4,294,967,295; it keeps its old sum"
+    case default; sentence = "no refusal has this number"
+    end select
+  end function
+
+  subroutine make_plan_stores(plan, n, room)
+    type(dlm_plan), intent(inout) :: plan
+    integer(dlm_size), intent(in) :: n, room
+    call give_numbers(plan%l_subs, room)
+    call give_numbers(plan%l_starts, n)
+    call give_numbers(plan%l_slots, n + 1)
+    call give_numbers(plan%u_subs, room)
+    call give_numbers(plan%u_starts, n)
+    call give_numbers(plan%u_slots, n + 1)
+  end subroutine
+
+  subroutine make_work(work, n)
+    type(dlm_work), intent(inout) :: work
+    integer(dlm_size), intent(in) :: n
+    call give_numbers(work%row_heads, n + 1)
+    call give_numbers(work%row_links, n + 1)
+    call give_numbers(work%set_heads, n + 1)
+    call give_numbers(work%set_links, n + 1)
+    call give_numbers(work%list, n)
+    call give_numbers(work%spare, n)
+    call give_reals(work%copy, n)
+    call give_reals(work%dense, n + 1)
+  end subroutine
+
+  ! Slots as the plan counts them, but never more than any plan of n rows has: a plan from elsewhere may have any counts.
+  subroutine make_factor(factor, plan, n)
+    type(dlm_factor), intent(inout) :: factor
+    type(dlm_plan), intent(in) :: plan
+    integer(dlm_size), intent(in) :: n
+    integer(dlm_size) :: most
+    most = n * (n - 1) / 2
+    call give_reals(factor%l, max(0_dlm_size, min(plan%counts(5), most)))
+    call give_reals(factor%u, max(0_dlm_size, min(plan%counts(6), most)))
+    call give_reals(factor%d, n)
+    call give_reals(factor%x, n)
+    call give_numbers(factor%pivots, n)
+  end subroutine
+
+  ! A store of this length; one that has it already is kept, whatever stands in it.
+  subroutine give_numbers(store, length)
+    integer(dlm_size), allocatable, intent(inout) :: store(:)
+    integer(dlm_size), intent(in) :: length
+    if (allocated(store)) then
+      if (size(store, kind=dlm_size) == length) return
+      deallocate(store)
+    end if
+    allocate(store(length))
+  end subroutine
+
+  subroutine give_reals(store, length)
+    real(dlm_real), allocatable, intent(inout) :: store(:)
+    integer(dlm_size), intent(in) :: length
+    if (allocated(store)) then
+      if (size(store, kind=dlm_size) == length) return
+      deallocate(store)
+    end if
+    allocate(store(length))
+  end subroutine
+
+  pure function is_cut(steps) result(cut)
+    integer(dlm_size), intent(in), optional :: steps
+    integer(dlm_size) :: cut
+    cut = merge(1_dlm_size, 0_dlm_size, present(steps))
+  end function
+
+  pure function steps_of(steps) result(number)
+    integer(dlm_size), intent(in), optional :: steps
+    integer(dlm_size) :: number
+    number = 0
+    if (present(steps)) number = steps
+  end function
+end module

@@ -1,0 +1,660 @@
+/*
+ * Dalumiveth: sparse Gaussian elimination with row interchanges, in storage slots that are counted beforehand from the pattern alone.
+ *
+ * What to know first
+ *
+ *   Counting   Rows, columns and steps count from 1, as in the papers. Places in stores count from 0: what belongs to row, column
+ *              or step k stands at place k-1.
+ *   Stores     A store is a pointer and its number of places. The pointer must be valid for all of them, and a store lent for writing
+ *              must not overlap any other store of the same call. That is all a caller has to see to: every length and every number
+ *              gets an answer, a result or a refusal with its number. Inputs are never changed. In the functions dlm_* a NULL pointer
+ *              is a store without places, whatever its length says.
+ *   Refusals   After a refusal every result store is zero throughout. Work stores are zero after every call. A result store that is
+ *              longer than needed has zeros behind the result.
+ *   Proved     The functions dalumiveth_*, which the library exports, are proved for all inputs: each number of the answer and each store
+ *              afterwards, bit for bit; that planned slots suffice for every choice of rows; that every call ends. Their contracts
+ *              speak of stores that are valid and do not overlap: no proof sees what a program in C lends.
+ *   Tested     The functions dlm_*, which stand in this file, put structs around them. They are not proved; the library's tests go
+ *              through them.
+ *
+ * The short way
+ *
+ *   dlm_sizes sizes = dlm_sizes_for(n, entries, NULL);
+ *   dlm_plan_allocate(&plan, &sizes); dlm_work_allocate(&work, &sizes);            each: 1, or 0 if there is no memory
+ *   answer = dlm_make_plan(&pattern, &plan, &work);                                 answer.refusal is DLM_NONE, or the plan is zeros
+ *   sizes = dlm_sizes_for(n, entries, &plan.counts);
+ *   dlm_factor_allocate(&factor, &sizes);
+ *   answer = dlm_run_largest(&pattern, &plan, &system, dlm_whole(), &factor, &work);          the solution is factor.x
+ *   dlm_factor_free(&factor); dlm_work_free(&work); dlm_plan_free(&plan);
+ *
+ * A plan serves every run on its pattern. Different threads may call at the same time with stores of their own (a plan that is only
+ * run may be shared): the library keeps nothing. It allocates nothing either; dalumiveth_job takes some 120 kB of the stack, the other
+ * functions less than 2 kB.
+ */
+#ifndef DALUMIVETH_H
+#define DALUMIVETH_H
+
+#include <stddef.h>
+#include <stdint.h>
+#include <stdlib.h>
+
+#ifdef __cplusplus
+extern "C" {
+#endif
+
+/* The library is made for 64 bits; elsewhere this line does not compile. */
+typedef char dlm_size_t_has_64_bits[sizeof(size_t) == 8 ? 1 : -1];
+
+#define DLM_MOST_ROWS ((size_t)1024)      /* the largest n */
+#define DLM_MOST_ENTRIES ((size_t)16384)  /* the largest number of entries */
+#define DLM_MOST_JOB ((size_t)16384)      /* bytes of the longest job */
+#define DLM_MOST_PRINTED ((size_t)8192)   /* bytes that hold the answer to any job */
+
+/* ------------------------------------------------------------------ refusals */
+
+/* What an answer may say. Where no step is named, the answer's step is 0. */
+typedef enum dlm_refusal {
+    DLM_NONE = 0,           /* no refusal: planned, agreed, finished, added */
+    DLM_LIMITS = 1,         /* n is 0 or above 1,024, or there are more than 16,384 entries */
+    DLM_STARTS = 2,         /* the row starts are not n+1, do not begin with 0, fall, or do not end with the number of entries */
+    DLM_COLUMN = 3,         /* a column is outside 1 to n */
+    DLM_ORDER = 4,          /* the columns of a row do not ascend strictly */
+    DLM_DIAGONAL = 5,       /* a row lacks its diagonal */
+    DLM_STORES = 6,         /* a starts store of the plan, or a work store, has another length than the one given with it below */
+    DLM_LOWER_ROOM = 7,     /* an L subscript does not fit; the step */
+    DLM_UPPER_ROOM = 8,     /* a U subscript does not fit; the step */
+    DLM_OTHER_PLAN = 9,     /* the lent plan differs from the pattern's in some count, start or used subscript */
+    DLM_LENDING = 10,       /* values not as many as entries, right side, x, pivots or d not n, or slots fewer than planned */
+    DLM_VALUES = 11,        /* a value or right side is not finite */
+    DLM_ROW_LIST = 12,      /* the row list is not n long, its row k is below k or above n, or a run is cut to more than n steps */
+    DLM_NO_PIVOT = 13,      /* no row from k on, or not the listed row, has a nonzero entry in column k; the step k */
+    DLM_NOT_FINITE = 14,    /* a quotient, product or difference is not finite; the step, in back substitution the row */
+    DLM_JOB_COMMAND = 15,   /* job: a command byte is unknown or stands where it may not, or R names another row than the next */
+    DLM_JOB_ENDS = 16,      /* job: the bytes end inside or before a command */
+    DLM_JOB_GOES_ON = 17,   /* job: bytes follow Z */
+    DLM_JOB_TOO_LONG = 18,  /* job: it is over 16,384 bytes */
+    DLM_TALLY_FULL = 19     /* the tally's sum would pass 4,294,967,295; the tally keeps its old sum */
+} dlm_refusal;
+
+/* The sentence of a refusal's number, without a full stop. */
+static inline const char *dlm_sentence(size_t number)
+{
+    static const char *const sentences[] = {
+        "no refusal",
+        "n is 0 or above 1,024, or there are more than 16,384 entries",
+        "the row starts are not n+1, do not begin with 0, fall, or do not end with the number of entries",
+        "a column is outside 1 to n",
+        "the columns of a row do not ascend strictly",
+        "a row lacks its diagonal",
+        "a starts store of the plan, or a work store, has a wrong length",
+        "an L subscript does not fit into its store",
+        "a U subscript does not fit into its store",
+        "the lent plan is not this pattern's: some count, start or used subscript differs",
+        "values are not as many as entries, right side, x, pivots or d not n, or slots fewer than planned",
+        "a value or right side is not finite",
+        "the row list is not n long, its row k is below k or above n, or the run is cut to more than n steps",
+        "no row from the step on, or not the listed row, has a nonzero entry in the step's column",
+        "a quotient, product or difference is not finite",
+        "job: a command byte is unknown or stands where it may not, or R names another row than the next",
+        "job: the bytes end inside or before a command",
+        "job: bytes follow Z",
+        "job: it is over 16,384 bytes",
+        "the tally's sum would pass 4,294,967,295; it keeps its old sum",
+    };
+    return number < sizeof sentences / sizeof sentences[0] ? sentences[number] : "no refusal has this number";
+}
+
+/* The answer of a call. */
+typedef struct dlm_answer {
+    dlm_refusal refusal;
+    size_t step;  /* with 7, 8, 13 and 14 the step (14 in back substitution: the row); else 0 */
+} dlm_answer;
+
+/* ------------------------------------------------------------------ stores */
+
+/* A store of numbers, and one of reals, that a call may write. */
+typedef struct dlm_numbers {
+    size_t *at;
+    size_t length;
+} dlm_numbers;
+
+typedef struct dlm_reals {
+    double *at;
+    size_t length;
+} dlm_reals;
+
+/* Where entries may stand, row after row. */
+typedef struct dlm_pattern {
+    size_t n;               /* rows and columns, 1 to 1,024 */
+    const size_t *starts;   /* row i has the columns at places starts[i-1] to starts[i]-1; starts[0] is 0, starts[n] is entries */
+    size_t starts_length;   /* n+1 */
+    const size_t *columns;  /* column numbers, 1 to n, strictly ascending in each row, the diagonal among them */
+    size_t entries;         /* how many: at most 16,384 */
+} dlm_pattern;
+
+/* The numbers of one system on a pattern. */
+typedef struct dlm_system {
+    const double *values;  /* one for each column number of the pattern, in the same order; finite, zero of either sign allowed */
+    size_t values_length;  /* entries */
+    const double *right;   /* the right side; finite */
+    size_t right_length;   /* n */
+} dlm_system;
+
+/* The seven counts of a plan, in the order in which the library numbers them. */
+typedef struct dlm_counts {
+    size_t n;
+    size_t entries;
+    size_t l_subscripts;  /* used places of l_subs */
+    size_t u_subscripts;  /* used places of u_subs */
+    size_t l_slots;       /* value slots of L, the diagonal not among them */
+    size_t u_slots;       /* value slots of U, the diagonal not among them */
+    size_t reads;         /* members of lists that planning reads, by the papers' count */
+} dlm_counts;
+
+/* A plan: for each step k the rows of L and the columns of U beyond k, as shared subscripts, and where their value slots start.
+   The list of step k on a side has slots[k] - slots[k-1] members, from subs[starts[k-1]] on; its values are at slots[k-1] on. */
+typedef struct dlm_plan {
+    dlm_counts counts;     /* zeros after a refusal */
+    dlm_numbers l_subs;    /* any length; n(n-1)/2 is always enough (proved), counts.l_subscripts are used */
+    dlm_numbers l_starts;  /* n: a place among l_subs for each step */
+    dlm_numbers l_slots;   /* n+1: a place among the values l for each step, at the end their number */
+    dlm_numbers u_subs;    /* any length; n(n-1)/2 is always enough (proved), counts.u_subscripts are used */
+    dlm_numbers u_starts;  /* n: a place among u_subs for each step */
+    dlm_numbers u_slots;   /* n+1: a place among the values u for each step, at the end their number */
+} dlm_plan;
+
+/* Room that calls work in: any numbers before, zeros after. Planning and verifying use the first six alone. */
+typedef struct dlm_work {
+    dlm_numbers row_heads;  /* n+1 */
+    dlm_numbers row_links;  /* n+1 */
+    dlm_numbers set_heads;  /* n+1 */
+    dlm_numbers set_links;  /* n+1 */
+    dlm_numbers list;       /* n */
+    dlm_numbers spare;      /* n */
+    dlm_reals copy;         /* n */
+    dlm_reals dense;        /* n+1 */
+} dlm_work;
+
+/* What a run leaves. After a cut run slots and diagonal have the places of the square as they then are, x the right side. */
+typedef struct dlm_factor {
+    dlm_reals l;         /* at least counts.l_slots: multipliers, each where it was written (rows exchanged later do not move them) */
+    dlm_reals u;         /* at least counts.u_slots: the rows of U beyond the diagonal */
+    dlm_reals d;         /* n: the diagonal */
+    dlm_reals x;         /* n: the solution */
+    dlm_numbers pivots;  /* n: the pivot row of each step done, then 0 */
+    size_t updates;      /* subtractions in the matrix; 0 after a refusal */
+} dlm_factor;
+
+/* How far a run goes. */
+typedef struct dlm_extent {
+    size_t cut;    /* 0: all steps and back substitution; else the first `steps` steps alone */
+    size_t steps;  /* 0 to n; not read in a whole run */
+} dlm_extent;
+
+/* How long each store of the structs above must be, under the same names. */
+typedef struct dlm_sizes {
+    size_t starts, columns;                                                    /* pattern */
+    size_t values, right, rows;                                                /* system and row list */
+    size_t l_subs, l_starts, l_slots, u_subs, u_starts, u_slots;               /* plan */
+    size_t row_heads, row_links, set_heads, set_links, list, spare, copy, dense; /* work */
+    size_t l, u, d, x, pivots;                                                 /* factor; l and u may be longer */
+} dlm_sizes;
+
+/* ------------------------------------------------------------------ the exported functions */
+
+/*
+ * In each, a store is a pointer, not NULL, followed by its length. `most` is the largest n that the caller takes; above 1,024 it means
+ * 1,024. `answer` receives the number of the refusal (0: none), its step, then the values (0 after a refusal); a shorter store receives
+ * as many as it has room for, a longer one zeros behind. The number is returned as well. The dlm_* functions below take care of all this.
+ */
+
+/* answer: number, step, and the seven counts. Refuses with 1 to 8. */
+size_t dalumiveth_plan(size_t most, size_t n, const size_t *starts, size_t starts_length, const size_t *columns, size_t columns_length,
+                       size_t *l_subs, size_t l_subs_length, size_t *l_starts, size_t l_starts_length, size_t *l_slots,
+                       size_t l_slots_length, size_t *u_subs, size_t u_subs_length, size_t *u_starts, size_t u_starts_length,
+                       size_t *u_slots, size_t u_slots_length, size_t *row_heads, size_t row_heads_length, size_t *row_links,
+                       size_t row_links_length, size_t *set_heads, size_t set_heads_length, size_t *set_links, size_t set_links_length,
+                       size_t *list, size_t list_length, size_t *spare, size_t spare_length, size_t *answer, size_t answer_length);
+
+/* counts: the seven counts of the lent plan; missing ones read as 0, further ones are not read. answer: number, step. Refuses with 1 to 6
+   and 9. */
+size_t dalumiveth_verify(size_t most, size_t n, const size_t *starts, size_t starts_length, const size_t *columns, size_t columns_length,
+                         const size_t *counts, size_t counts_length, const size_t *l_subs, size_t l_subs_length, const size_t *l_starts,
+                         size_t l_starts_length, const size_t *l_slots, size_t l_slots_length, const size_t *u_subs,
+                         size_t u_subs_length, const size_t *u_starts, size_t u_starts_length, const size_t *u_slots,
+                         size_t u_slots_length, size_t *row_heads, size_t row_heads_length, size_t *row_links, size_t row_links_length,
+                         size_t *set_heads, size_t set_heads_length, size_t *set_links, size_t set_links_length, size_t *list,
+                         size_t list_length, size_t *spare, size_t spare_length, size_t *answer, size_t answer_length);
+
+/* answer: number, step, updates. Refuses with 1 to 6 and 9 to 14. */
+size_t dalumiveth_run_largest(size_t most, size_t n, const size_t *starts, size_t starts_length, const size_t *columns,
+                              size_t columns_length, const size_t *counts, size_t counts_length, const size_t *l_subs,
+                              size_t l_subs_length, const size_t *l_starts, size_t l_starts_length, const size_t *l_slots,
+                              size_t l_slots_length, const size_t *u_subs, size_t u_subs_length, const size_t *u_starts,
+                              size_t u_starts_length, const size_t *u_slots, size_t u_slots_length, const double *values,
+                              size_t values_length, const double *right, size_t right_length, size_t cut, size_t steps, double *l,
+                              size_t l_length, double *u, size_t u_length, double *d, size_t d_length, double *x, size_t x_length,
+                              size_t *pivots, size_t pivots_length, size_t *row_heads, size_t row_heads_length, size_t *row_links,
+                              size_t row_links_length, size_t *set_heads, size_t set_heads_length, size_t *set_links,
+                              size_t set_links_length, size_t *list, size_t list_length, size_t *spare, size_t spare_length,
+                              double *copy, size_t copy_length, double *dense, size_t dense_length, size_t *answer,
+                              size_t answer_length);
+
+/* As dalumiveth_run_largest; rows[k-1] is the pivot row of step k, k to n. */
+size_t dalumiveth_run_listed(size_t most, size_t n, const size_t *starts, size_t starts_length, const size_t *columns,
+                             size_t columns_length, const size_t *counts, size_t counts_length, const size_t *l_subs,
+                             size_t l_subs_length, const size_t *l_starts, size_t l_starts_length, const size_t *l_slots,
+                             size_t l_slots_length, const size_t *u_subs, size_t u_subs_length, const size_t *u_starts,
+                             size_t u_starts_length, const size_t *u_slots, size_t u_slots_length, const double *values,
+                             size_t values_length, const double *right, size_t right_length, const size_t *rows, size_t rows_length,
+                             size_t cut, size_t steps, double *l, size_t l_length, double *u, size_t u_length, double *d,
+                             size_t d_length, double *x, size_t x_length, size_t *pivots, size_t pivots_length, size_t *row_heads,
+                             size_t row_heads_length, size_t *row_links, size_t row_links_length, size_t *set_heads,
+                             size_t set_heads_length, size_t *set_links, size_t set_links_length, size_t *list, size_t list_length,
+                             size_t *spare, size_t spare_length, double *copy, size_t copy_length, double *dense, size_t dense_length,
+                             size_t *answer, size_t answer_length);
+
+/* answer: number (0 or 19), step 0, and the sum that the tally has afterwards (19: the old one). */
+size_t dalumiveth_tally_add(uint32_t sum, size_t updates, size_t *answer, size_t answer_length);
+
+/* Returns how many bytes are printed, at most 8,192; they stand in `out`, zeros behind. A shorter `out` is all zeros. */
+size_t dalumiveth_job(const uint8_t *job, size_t job_length, uint8_t *out, size_t out_length);
+
+/* ------------------------------------------------------------------ lending */
+
+/* The library takes no NULL, not even for a store without places. These give it the address of a place that it neither reads nor writes. */
+static inline size_t *dlm_numbers_at(dlm_numbers store)
+{
+    static size_t nowhere;
+    return store.at != NULL ? store.at : &nowhere;
+}
+
+static inline double *dlm_reals_at(dlm_reals store)
+{
+    static double nowhere;
+    return store.at != NULL ? store.at : &nowhere;
+}
+
+static inline const size_t *dlm_read_numbers(const size_t *at)
+{
+    static const size_t nowhere = 0;
+    return at != NULL ? at : &nowhere;
+}
+
+static inline const double *dlm_read_reals(const double *at)
+{
+    static const double nowhere = 0;
+    return at != NULL ? at : &nowhere;
+}
+
+/* A store as the two arguments that an exported function takes for it. */
+#define DLM_NUMBERS(store) dlm_numbers_at(store), ((store).at != NULL ? (store).length : 0)
+#define DLM_REALS(store) dlm_reals_at(store), ((store).at != NULL ? (store).length : 0)
+#define DLM_READ_NUMBERS(at, length) dlm_read_numbers(at), ((at) != NULL ? (length) : 0)
+#define DLM_READ_REALS(at, length) dlm_read_reals(at), ((at) != NULL ? (length) : 0)
+
+/* The arguments that several functions take in the same order. */
+#define DLM_PATTERN(p) \
+    DLM_MOST_ROWS, (p)->n, DLM_READ_NUMBERS((p)->starts, (p)->starts_length), DLM_READ_NUMBERS((p)->columns, (p)->entries)
+#define DLM_PLAN(p) \
+    DLM_NUMBERS((p)->l_subs), DLM_NUMBERS((p)->l_starts), DLM_NUMBERS((p)->l_slots), DLM_NUMBERS((p)->u_subs), \
+        DLM_NUMBERS((p)->u_starts), DLM_NUMBERS((p)->u_slots)
+#define DLM_SYSTEM(s) DLM_READ_REALS((s)->values, (s)->values_length), DLM_READ_REALS((s)->right, (s)->right_length)
+#define DLM_FACTOR(f) \
+    DLM_REALS((f)->l), DLM_REALS((f)->u), DLM_REALS((f)->d), DLM_REALS((f)->x), DLM_NUMBERS((f)->pivots)
+#define DLM_WORK(w) \
+    DLM_NUMBERS((w)->row_heads), DLM_NUMBERS((w)->row_links), DLM_NUMBERS((w)->set_heads), DLM_NUMBERS((w)->set_links), \
+        DLM_NUMBERS((w)->list), DLM_NUMBERS((w)->spare)
+
+/* Number and step of an answer in numbers. */
+static inline dlm_answer dlm_answer_in(const size_t *numbers)
+{
+    dlm_answer answer;
+    answer.refusal = (dlm_refusal)numbers[0];
+    answer.step = numbers[1];
+    return answer;
+}
+
+/* The counts as the seven numbers that verifying and running read. */
+static inline void dlm_counts_out(const dlm_counts *counts, size_t numbers[7])
+{
+    numbers[0] = counts->n;
+    numbers[1] = counts->entries;
+    numbers[2] = counts->l_subscripts;
+    numbers[3] = counts->u_subscripts;
+    numbers[4] = counts->l_slots;
+    numbers[5] = counts->u_slots;
+    numbers[6] = counts->reads;
+}
+
+static inline dlm_counts dlm_counts_in(const size_t numbers[7])
+{
+    dlm_counts counts;
+    counts.n = numbers[0];
+    counts.entries = numbers[1];
+    counts.l_subscripts = numbers[2];
+    counts.u_subscripts = numbers[3];
+    counts.l_slots = numbers[4];
+    counts.u_slots = numbers[5];
+    counts.reads = numbers[6];
+    return counts;
+}
+
+/* ------------------------------------------------------------------ sizes */
+
+/* The part of dlm_sizes_for that n and the entries decide. */
+static inline dlm_sizes dlm_sizes_by_rows(size_t n, size_t entries)
+{
+    dlm_sizes sizes;
+    sizes.columns = sizes.values = entries;
+    sizes.right = sizes.rows = n;
+    sizes.l_starts = sizes.u_starts = n;
+    sizes.starts = sizes.l_slots = sizes.u_slots = n + 1;
+    sizes.row_heads = sizes.row_links = sizes.set_heads = sizes.set_links = n + 1;
+    sizes.list = sizes.spare = sizes.copy = n;
+    sizes.dense = n + 1;
+    sizes.d = sizes.x = sizes.pivots = n;
+    sizes.l_subs = sizes.u_subs = sizes.l = sizes.u = n * (n - 1) / 2;
+    return sizes;
+}
+
+/* How long each store must be. Before planning (`planned` NULL) subscripts and slots are what is always enough, n(n-1)/2 a side; once
+   planned, what the plan uses. For an n or entries that are refused with 1, all sizes are 0. */
+static inline dlm_sizes dlm_sizes_for(size_t n, size_t entries, const dlm_counts *planned)
+{
+    static const dlm_sizes none = {0, 0, 0, 0, 0, 0, 0, 0, 0, 0, 0, 0, 0, 0, 0, 0, 0, 0, 0, 0, 0, 0, 0, 0};
+    dlm_sizes sizes;
+    if (n == 0 || n > DLM_MOST_ROWS || entries > DLM_MOST_ENTRIES)
+        return none;
+    sizes = dlm_sizes_by_rows(n, entries);
+    if (planned != NULL) {
+        sizes.l_subs = planned->l_subscripts;
+        sizes.u_subs = planned->u_subscripts;
+        sizes.l = planned->l_slots;
+        sizes.u = planned->u_slots;
+    }
+    return sizes;
+}
+
+/* ------------------------------------------------------------------ patterns */
+
+/* A pattern in the caller's own stores, whose lengths are n+1 and entries. */
+static inline dlm_pattern dlm_pattern_of(size_t n, const size_t *starts, const size_t *columns, size_t entries)
+{
+    dlm_pattern pattern;
+    pattern.n = n;
+    pattern.starts = starts;
+    pattern.starts_length = n + 1;
+    pattern.columns = columns;
+    pattern.entries = entries;
+    return pattern;
+}
+
+/* From compressed rows that count columns from 0: n+1 row starts and `entries` columns, into stores of the same lengths. The order of the
+   columns is kept: a row whose columns do not ascend is refused with 4 in planning, one without its diagonal with 5. */
+static inline dlm_pattern dlm_pattern_from_csr(size_t n, const size_t *csr_starts, const size_t *csr_columns, size_t entries,
+                                               size_t *starts, size_t *columns)
+{
+    size_t place;
+    for (place = 0; place <= n; place++)
+        starts[place] = csr_starts[place];
+    for (place = 0; place < entries; place++)
+        columns[place] = csr_columns[place] + 1; /* the largest size_t turns into 0, which is refused with 3 */
+    return dlm_pattern_of(n, starts, columns, entries);
+}
+
+/* The same from int. A negative start is refused with 2 in planning, a negative column with 3. */
+static inline dlm_pattern dlm_pattern_from_csr_int(size_t n, const int *csr_starts, const int *csr_columns, size_t entries,
+                                                   size_t *starts, size_t *columns)
+{
+    size_t place;
+    for (place = 0; place <= n; place++)
+        starts[place] = csr_starts[place] < 0 ? SIZE_MAX : (size_t)csr_starts[place];
+    for (place = 0; place < entries; place++)
+        columns[place] = csr_columns[place] < 0 ? 0 : (size_t)csr_columns[place] + 1;
+    return dlm_pattern_of(n, starts, columns, entries);
+}
+
+/* Values and right side in the caller's own stores. */
+static inline dlm_system dlm_system_of(const double *values, size_t entries, const double *right, size_t n)
+{
+    dlm_system system;
+    system.values = values;
+    system.values_length = entries;
+    system.right = right;
+    system.right_length = n;
+    return system;
+}
+
+/* ------------------------------------------------------------------ calls */
+
+/* Makes the plan of a pattern. Refuses with 1 to 8. */
+static inline dlm_answer dlm_make_plan(const dlm_pattern *pattern, dlm_plan *plan, dlm_work *work)
+{
+    size_t answer[9] = {0};
+    dalumiveth_plan(DLM_PATTERN(pattern), DLM_PLAN(plan), DLM_WORK(work), answer, 9);
+    plan->counts = dlm_counts_in(answer + 2);
+    return dlm_answer_in(answer);
+}
+
+/* Says whether a plan is this pattern's: no refusal, or 1 to 6 or 9. */
+static inline dlm_answer dlm_verify_plan(const dlm_pattern *pattern, const dlm_plan *plan, dlm_work *work)
+{
+    size_t answer[2] = {0};
+    size_t counts[7];
+    dlm_counts_out(&plan->counts, counts);
+    dalumiveth_verify(DLM_PATTERN(pattern), counts, 7, DLM_PLAN(plan), DLM_WORK(work), answer, 2);
+    return dlm_answer_in(answer);
+}
+
+static inline dlm_extent dlm_whole(void)
+{
+    dlm_extent extent;
+    extent.cut = 0;
+    extent.steps = 0;
+    return extent;
+}
+
+/* The first `steps` steps, without back substitution. */
+static inline dlm_extent dlm_cut(size_t steps)
+{
+    dlm_extent extent;
+    extent.cut = 1;
+    extent.steps = steps;
+    return extent;
+}
+
+/* Eliminates and solves; the pivot row of step k is the row from k on with the largest magnitude in column k, the lowest if equal.
+   Refuses with 1 to 6 and 9 to 14. */
+static inline dlm_answer dlm_run_largest(const dlm_pattern *pattern, const dlm_plan *plan, const dlm_system *system, dlm_extent extent,
+                                         dlm_factor *factor, dlm_work *work)
+{
+    size_t answer[3] = {0};
+    size_t counts[7];
+    dlm_counts_out(&plan->counts, counts);
+    dalumiveth_run_largest(DLM_PATTERN(pattern), counts, 7, DLM_PLAN(plan), DLM_SYSTEM(system), extent.cut, extent.steps,
+                           DLM_FACTOR(factor), DLM_WORK(work), DLM_REALS(work->copy), DLM_REALS(work->dense), answer, 3);
+    factor->updates = answer[2];
+    return dlm_answer_in(answer);
+}
+
+/* The same with the pivot row of step k given as rows[k-1], from k to n; rows_length must be n. */
+static inline dlm_answer dlm_run_listed(const dlm_pattern *pattern, const dlm_plan *plan, const dlm_system *system, const size_t *rows,
+                                        size_t rows_length, dlm_extent extent, dlm_factor *factor, dlm_work *work)
+{
+    size_t answer[3] = {0};
+    size_t counts[7];
+    dlm_counts_out(&plan->counts, counts);
+    dalumiveth_run_listed(DLM_PATTERN(pattern), counts, 7, DLM_PLAN(plan), DLM_SYSTEM(system), DLM_READ_NUMBERS(rows, rows_length),
+                          extent.cut, extent.steps, DLM_FACTOR(factor), DLM_WORK(work), DLM_REALS(work->copy),
+                          DLM_REALS(work->dense), answer, 3);
+    factor->updates = answer[2];
+    return dlm_answer_in(answer);
+}
+
+/* Adds the updates of a finished run to a tally that stays with the caller; an empty one is 0. Refuses with 19: the tally keeps its sum. */
+static inline dlm_answer dlm_tally_add(uint32_t *tally, size_t updates)
+{
+    size_t answer[3] = {0};
+    dalumiveth_tally_add(*tally, updates, answer, 3);
+    *tally = (uint32_t)answer[2];
+    return dlm_answer_in(answer);
+}
+
+/* What the job program prints for the bytes of a job: `out` has 8,192 places (DLM_MOST_PRINTED). Returns how many of them are printed; zeros
+   stand behind. A refusal is printed too. */
+static inline size_t dlm_answer_job(const uint8_t *job, size_t job_length, uint8_t *out)
+{
+    static const uint8_t nowhere = 0;
+    return dalumiveth_job(job != NULL ? job : &nowhere, job != NULL ? job_length : 0, out, DLM_MOST_PRINTED);
+}
+
+/* ------------------------------------------------------------------ the square's places */
+
+/* Where `wanted` stands in the list of step k on a side: its value slot through `slot` and 1, or 0 if the list does not have it. */
+static inline int dlm_slot_in(const dlm_numbers *subs, const dlm_numbers *starts, const dlm_numbers *slots, size_t k, size_t wanted,
+                              size_t *slot)
+{
+    const size_t *list = subs->at + starts->at[k - 1];
+    size_t low = 0;
+    size_t high = slots->at[k] - slots->at[k - 1];
+    while (low < high) {
+        size_t middle = low + (high - low) / 2;
+        if (list[middle] == wanted) {
+            *slot = slots->at[k - 1] + middle;
+            return 1;
+        }
+        if (list[middle] < wanted)
+            low = middle + 1;
+        else
+            high = middle;
+    }
+    return 0;
+}
+
+/* The number that place (row, column) of the square has after a run, L below the diagonal and U above; the plan is one that was made or
+   verified here. A place without a slot is +0, as is proved of the full square; so is one outside the square. */
+static inline double dlm_number_at(const dlm_plan *plan, const dlm_factor *factor, size_t row, size_t column)
+{
+    size_t n = plan->counts.n;
+    size_t slot = 0;
+    if (row == 0 || column == 0 || row > n || column > n)
+        return 0;
+    if (row == column)
+        return factor->d.at[row - 1];
+    if (row < column)
+        return dlm_slot_in(&plan->u_subs, &plan->u_starts, &plan->u_slots, row, column, &slot) ? factor->u.at[slot] : 0;
+    return dlm_slot_in(&plan->l_subs, &plan->l_starts, &plan->l_slots, column, row, &slot) ? factor->l.at[slot] : 0;
+}
+
+/* ------------------------------------------------------------------ allocation */
+
+/*
+ * A pair for each struct: ..._allocate gives every store its length of `sizes`, filled with zeros, and answers 1; if there is no memory
+ * it keeps none, leaves stores without places and answers 0. ..._free gives the stores back and leaves stores without places. Callers
+ * with stores of their own use neither.
+ */
+
+/* One place at least, so that NULL means that there is no memory. */
+static inline int dlm_numbers_allocate(dlm_numbers *store, size_t length)
+{
+    store->at = length <= SIZE_MAX / sizeof(size_t) ? (size_t *)calloc(length > 0 ? length : 1, sizeof(size_t)) : NULL;
+    store->length = store->at != NULL ? length : 0;
+    return store->at != NULL;
+}
+
+static inline int dlm_reals_allocate(dlm_reals *store, size_t length)
+{
+    store->at = length <= SIZE_MAX / sizeof(double) ? (double *)calloc(length > 0 ? length : 1, sizeof(double)) : NULL;
+    store->length = store->at != NULL ? length : 0;
+    return store->at != NULL;
+}
+
+static inline void dlm_numbers_free(dlm_numbers *store)
+{
+    free(store->at);
+    store->at = NULL;
+    store->length = 0;
+}
+
+static inline void dlm_reals_free(dlm_reals *store)
+{
+    free(store->at);
+    store->at = NULL;
+    store->length = 0;
+}
+
+static inline void dlm_plan_free(dlm_plan *plan)
+{
+    static const size_t none[7] = {0};
+    plan->counts = dlm_counts_in(none);
+    dlm_numbers_free(&plan->l_subs);
+    dlm_numbers_free(&plan->l_starts);
+    dlm_numbers_free(&plan->l_slots);
+    dlm_numbers_free(&plan->u_subs);
+    dlm_numbers_free(&plan->u_starts);
+    dlm_numbers_free(&plan->u_slots);
+}
+
+/* Every store is asked for even if one before it failed, so that freeing finds all of them set: hence & and not &&. */
+static inline int dlm_plan_allocate(dlm_plan *plan, const dlm_sizes *sizes)
+{
+    static const size_t none[7] = {0};
+    int all = dlm_numbers_allocate(&plan->l_subs, sizes->l_subs) & dlm_numbers_allocate(&plan->l_starts, sizes->l_starts) &
+              dlm_numbers_allocate(&plan->l_slots, sizes->l_slots) & dlm_numbers_allocate(&plan->u_subs, sizes->u_subs) &
+              dlm_numbers_allocate(&plan->u_starts, sizes->u_starts) & dlm_numbers_allocate(&plan->u_slots, sizes->u_slots);
+    plan->counts = dlm_counts_in(none);
+    if (!all)
+        dlm_plan_free(plan);
+    return all;
+}
+
+static inline void dlm_work_free(dlm_work *work)
+{
+    dlm_numbers_free(&work->row_heads);
+    dlm_numbers_free(&work->row_links);
+    dlm_numbers_free(&work->set_heads);
+    dlm_numbers_free(&work->set_links);
+    dlm_numbers_free(&work->list);
+    dlm_numbers_free(&work->spare);
+    dlm_reals_free(&work->copy);
+    dlm_reals_free(&work->dense);
+}
+
+static inline int dlm_work_allocate(dlm_work *work, const dlm_sizes *sizes)
+{
+    int all = dlm_numbers_allocate(&work->row_heads, sizes->row_heads) & dlm_numbers_allocate(&work->row_links, sizes->row_links) &
+              dlm_numbers_allocate(&work->set_heads, sizes->set_heads) & dlm_numbers_allocate(&work->set_links, sizes->set_links) &
+              dlm_numbers_allocate(&work->list, sizes->list) & dlm_numbers_allocate(&work->spare, sizes->spare) &
+              dlm_reals_allocate(&work->copy, sizes->copy) & dlm_reals_allocate(&work->dense, sizes->dense);
+    if (!all)
+        dlm_work_free(work);
+    return all;
+}
+
+static inline void dlm_factor_free(dlm_factor *factor)
+{
+    factor->updates = 0;
+    dlm_reals_free(&factor->l);
+    dlm_reals_free(&factor->u);
+    dlm_reals_free(&factor->d);
+    dlm_reals_free(&factor->x);
+    dlm_numbers_free(&factor->pivots);
+}
+
+static inline int dlm_factor_allocate(dlm_factor *factor, const dlm_sizes *sizes)
+{
+    int all = dlm_reals_allocate(&factor->l, sizes->l) & dlm_reals_allocate(&factor->u, sizes->u) &
+              dlm_reals_allocate(&factor->d, sizes->d) & dlm_reals_allocate(&factor->x, sizes->x) &
+              dlm_numbers_allocate(&factor->pivots, sizes->pivots);
+    factor->updates = 0;
+    if (!all)
+        dlm_factor_free(factor);
+    return all;
+}
+
+#ifdef __cplusplus
+}
+#endif
+
+#endif

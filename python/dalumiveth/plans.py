@@ -1,0 +1,208 @@
+"""Plans: made once for a pattern, run many times."""
+
+import threading
+from typing import NamedTuple
+
+import numpy as np
+
+from .library import USIZE, as_usize, call, lend
+from .patterns import MATRIX, MOST_FIELDS, by_rows, in_order, pattern_of
+from .refusals import raise_if_refused
+from .runs import Run
+from .stores import floats, usizes, whole_numbers
+
+
+class Counts(NamedTuple):
+    """The seven counts of a plan."""
+
+    n: int
+    entries: int
+    l_subscripts: int
+    u_subscripts: int
+    l_slots: int
+    u_slots: int
+    reads: int
+
+
+class Stores(NamedTuple):
+    """The six stores of a plan, as the library has them: subscripts count from 1, places from 0.
+
+    The kept list of step k (from 0) on a side is subs[starts[k] : starts[k] + slots[k+1] - slots[k]].
+    """
+
+    l_subs: np.ndarray
+    l_starts: np.ndarray
+    l_slots: np.ndarray
+    u_subs: np.ndarray
+    u_starts: np.ndarray
+    u_slots: np.ndarray
+
+
+def plan(matrix, *, add_diagonal=False, most=MOST_FIELDS, room=None):
+    """The plan of a matrix's pattern; its values are not looked at.
+
+    matrix        a SciPy sparse matrix, or any object with indptr, indices and shape (`CSR` is one). Formats other than
+                  CSR are converted by their own tocsr(). Columns that are not sorted within a row are sorted on a copy.
+                  A place that is listed twice is refused with 4: A.sum_duplicates() adds the values up.
+    add_diagonal  a row without a stored diagonal place is refused with 5; with add_diagonal=True the place is put into
+                  the pattern, with the value +0 in every run.
+    most          the largest n that is taken, at most 1,024
+    room          how many subscripts a side may need: a number, or one for L and one for U. None is always enough.
+
+    Raises `Refusal` 1 to 5, and 7 or 8 if the room is too small.
+    """
+    pattern = pattern_of(matrix, add_diagonal)
+    most = as_usize(most, "most")
+    n = min(pattern.n, MOST_FIELDS)  # a larger n is refused before any store is looked at
+    stores = _empty_stores(n, *_rooms(room, n))
+    answer = np.zeros(9, dtype=USIZE)
+    work = _index_work(n)
+    call("dalumiveth_plan", most, pattern.n, *lend(pattern.starts, pattern.columns, *stores, *work, answer))
+    raise_if_refused(answer)
+    counts = Counts(*answer[2:].tolist())
+    trimmed = stores._replace(
+        l_subs=stores.l_subs[: counts.l_subscripts].copy(), u_subs=stores.u_subs[: counts.u_subscripts].copy()
+    )
+    return Plan(pattern, counts, trimmed, most, add_diagonal)
+
+
+class Plan:
+    """The plan of a pattern, with work stores of its own; `dalumiveth.plan` makes it.
+
+    n, shape  rows and columns
+    counts    the seven counts: n, entries, L and U subscripts, L and U slots, reads
+    stores    the six stores of the plan, write-protected
+    pattern   the pattern as the library takes it, write-protected
+
+    Every run first verifies that counts and stores are the plan of the pattern, and refuses with 9 (or 6, for a store of
+    another length) if they are not. So `Plan(pattern, counts, stores)` may be given what was kept elsewhere: a plan that was
+    damaged on the way cannot lead to a wrong answer.
+
+    A plan's work stores serve one run at a time. Threads may share a plan: a lock makes them wait for each other. Threads
+    that shall run side by side take a `copy()` each. The arrays that are lent to a run must not be changed meanwhile.
+    """
+
+    def __init__(self, pattern, counts, stores, most=MOST_FIELDS, add_diagonal=False):
+        self._pattern, self._counts, self._stores = pattern, counts, stores
+        self._most = most
+        self._add_diagonal = add_diagonal
+        self._count_store = np.array(counts, dtype=USIZE)
+        for store in (pattern.starts, pattern.columns, self._count_store, *stores):
+            usizes(store, "a store of a plan").flags.writeable = False
+        # Pointers are taken once; the arrays live as long as the plan, since no attribute can be set to others.
+        self._lent_plan = lend(self._count_store, *stores)
+        # Work stores and the answer's store: made once, lent to every call.
+        self._work = (*_index_work(self.n), np.zeros(self.n), np.zeros(self.n + 1))
+        self._answer = np.zeros(3, dtype=USIZE)
+        self._lent_work = lend(*self._work)
+        self._lent_answer = lend(self._answer)
+        self._lock = threading.Lock()
+
+    def __repr__(self):
+        return f"<dalumiveth.Plan {', '.join(f'{name} {count}' for name, count in self.counts._asdict().items())}>"
+
+    n = property(lambda self: self._pattern.n, doc="Rows and columns.")
+    shape = property(lambda self: (self.n, self.n), doc="(n, n)")
+    counts = property(lambda self: self._counts, doc="The seven counts, a `Counts`.")
+    stores = property(lambda self: self._stores, doc="The six stores, a `Stores`; write-protected.")
+    pattern = property(lambda self: self._pattern, doc="The pattern as the library takes it; write-protected.")
+
+    def run(self, matrix, right, rows=None, steps=None):
+        """Eliminates and solves in the planned slots; the `Run` with everything that it left.
+
+        matrix  a matrix of the planned pattern, or its values alone: a float64 array in the order of the data of the matrix
+                that was planned. A matrix of a pattern with another plan is refused with 9.
+        right   the right side, float64
+        rows    the row list: the row of each step, counted from 0. None: the largest entry of the column chooses.
+        steps   cuts the run to its first `steps` steps, without back substitution; run.x is then the right side as it is
+                after them. None: a whole run.
+
+        Raises `Refusal` 9 to 14; for a matrix with another n 6, for one whose pattern has no plan 1 to 5. Arrays of another
+        type or with gaps are a TypeError. Values and right side are lent as they are (values that have to be sorted, or get a
+        diagonal, are copied), and never changed. Values alone are quicker than a matrix, whose pattern is read each time.
+        """
+        pattern, values = self._pattern_and_values(matrix)
+        system, name = [values, floats(right, "right")], "dalumiveth_run_largest"
+        if rows is not None:
+            system.append(whole_numbers(rows, "rows").astype(USIZE) + USIZE.type(1))
+            name = "dalumiveth_run_listed"
+        extent = (0, 0) if steps is None else (1, as_usize(steps, "steps"))
+        results = self._result_stores()
+        lent = (*lend(pattern.starts, pattern.columns), *self._lent_plan, *lend(*system), *extent, *lend(*results))
+        with self._lock:
+            call(name, self._most, pattern.n, *lent, *self._lent_work, *self._lent_answer)
+            answer = self._answer.tolist()
+        raise_if_refused(answer)
+        return Run(self, *results, updates=answer[2], steps=steps)
+
+    def solve(self, matrix, right):
+        """The solution x of A x = right; for a right side with several columns, one run for each of them."""
+        if isinstance(right, np.ndarray) and right.ndim == 2:
+            columns = [self.run(matrix, column.copy()).x for column in right.T]
+            return np.column_stack(columns) if columns else np.zeros_like(right)
+        return self.run(matrix, right).x
+
+    def verify(self, matrix=None):
+        """Raises `Refusal` 9 unless this is the plan of the matrix's pattern (None: of the pattern it was made for)."""
+        pattern = self.pattern if matrix is None else pattern_of(matrix, self._add_diagonal)
+        lent = (*lend(pattern.starts, pattern.columns), *self._lent_plan)
+        with self._lock:
+            call("dalumiveth_verify", self._most, pattern.n, *lent, *lend(*self._work[:6]), *self._lent_answer)
+            answer = self._answer.tolist()
+        raise_if_refused(answer)
+
+    def copy(self):
+        """The same plan with work stores and a lock of its own; the stores of the plan are shared."""
+        return Plan(self.pattern, self.counts, self.stores, self._most, self._add_diagonal)
+
+    def lower(self, step):
+        """The rows below the diagonal that have a slot in column `step`, ascending; both count from 0."""
+        return _kept_list(step, *self.stores[:3])
+
+    def upper(self, step):
+        """The columns beyond the diagonal that have a slot in row `step`, ascending; both count from 0."""
+        return _kept_list(step, *self.stores[3:])
+
+    def _pattern_and_values(self, matrix):
+        """The pattern to run with and its values, of a matrix or of values alone."""
+        if isinstance(matrix, np.ndarray):
+            return self.pattern, in_order(floats(matrix, "values"), self.pattern)
+        matrix = by_rows(matrix, MATRIX)
+        pattern = pattern_of(matrix, self._add_diagonal)
+        return pattern, in_order(floats(matrix.data, "data"), pattern)
+
+    def _result_stores(self):
+        """New stores for a run: l, u, d, x, pivots. No plan has more than n(n-1)/2 slots a side, whatever the counts say."""
+        slots = _always_enough(self.n)
+        l_slots, u_slots = min(self.counts.l_slots, slots), min(self.counts.u_slots, slots)
+        return (np.empty(l_slots), np.empty(u_slots), np.empty(self.n), np.empty(self.n), np.empty(self.n, dtype=USIZE))
+
+
+def _kept_list(step, subs, starts, slots):
+    """The kept list of a step of one side, counted from 0."""
+    step = range(starts.size)[step]
+    start, size = int(starts[step]), int(slots[step + 1] - slots[step])
+    return subs[start : start + size].astype(np.intp) - 1
+
+
+def _always_enough(n):
+    """As many subscripts, or slots, as a side of any plan of n can need."""
+    return n * (n - 1) // 2
+
+
+def _rooms(room, n):
+    """The room for subscripts, of L and of U."""
+    if room is None:
+        return _always_enough(n), _always_enough(n)
+    return room if isinstance(room, tuple) else (room, room)
+
+
+def _empty_stores(n, l_room, u_room):
+    """Stores for a plan to be made in."""
+    sizes = (l_room, n, n + 1, u_room, n, n + 1)
+    return Stores(*(np.empty(size, dtype=USIZE) for size in sizes))
+
+
+def _index_work(n):
+    """Row heads and links, set heads and links, list, spare."""
+    return tuple(np.zeros(size, dtype=USIZE) for size in (n + 1, n + 1, n + 1, n + 1, n, n))

@@ -1,0 +1,58 @@
+"""The nineteen refusals: numbers, sentences, and where each is checked."""
+
+# Number: (where it is checked, its sentence), in the words of the table of document 01. Rows, columns, places p_k and steps in
+# the sentences count from 1.
+SENTENCES = {
+    1: ("pattern", "n is 0 or above 1,024 (or above what the caller takes), or there are more than 16,384 entries"),
+    2: ("pattern", "the row starts are not n+1 numbers that begin with 0, do not fall and end with the number of entries"),
+    3: ("pattern", "a column is outside 1 to n"),
+    4: ("pattern", "columns do not ascend strictly in a row"),
+    5: ("pattern", "a row lacks its diagonal"),
+    6: ("plan stores", "a starts store of the plan or a work store has another length than it must have"),
+    7: ("plan stores", "an L subscript does not fit"),
+    8: ("plan stores", "a U subscript does not fit"),
+    9: ("values", "the lent plan differs from this pattern's plan in some count, start or used subscript"),
+    10: ("values", "values are not as many as entries, the right side is not n long, or slots are fewer than planned"),
+    11: ("values", "a value or right side is not finite"),
+    12: ("run", "the row list is not n long, p_k is below k or above n, or the steps are more than n"),
+    13: ("run", "no row from this step on, or not the listed row, has a nonzero entry in this step's column"),
+    14: ("run", "a quotient, product or difference is not finite"),
+    15: ("job", "a command byte is unknown or stands where it may not, or R names another row than the next"),
+    16: ("job", "the bytes end inside or before a command"),
+    17: ("job", "bytes follow Z"),
+    18: ("job", "the job is over 16,384 bytes"),
+    19: ("tally", "the sum would pass 4,294,967,295; the tally keeps its old sum"),
+}
+
+# What a caller from Python can do about it.
+_ADVICE = {
+    4: "a place is listed twice: A.sum_duplicates() makes one of them",
+    5: "add_diagonal=True puts the missing places in, with the value 0",
+}
+
+
+class Refusal(Exception):
+    """The library refused a call.
+
+    number    1 to 19
+    step      the step, counted from 1, for 7, 8, 13 and 14 (14 in back substitution: the row); else 0
+    sentence  what the number means
+    where     what was being checked: "pattern", "plan stores", "values", "run", "job" or "tally"
+    """
+
+    def __init__(self, number, step=0):
+        super().__init__(number, step)
+        self.number = number
+        self.step = step
+        self.where, self.sentence = SENTENCES[number]
+
+    def __str__(self):
+        place = f" at step {self.step}" if self.step else ""
+        advice = f" ({_ADVICE[self.number]})" if self.number in _ADVICE else ""
+        return f"refused {self.number}{place}, {self.where}: {self.sentence}{advice}"
+
+
+def raise_if_refused(answer):
+    """Raises the refusal that an answer in numbers holds: its number at place 0 (0: none), its step at place 1."""
+    if answer[0]:
+        raise Refusal(int(answer[0]), int(answer[1]))

@@ -1,0 +1,129 @@
+"""The definitions of document 01 on full squares and sets, written plainly: what the library's answers are compared with.
+
+Rows, columns and steps count from 1 in `plan_of`, as in the paper, and from 0 in the elimination, as in numpy.
+"""
+
+from typing import NamedTuple
+
+import numpy as np
+
+
+class Planned(NamedTuple):
+    """Counts, and subscripts, starts and slot starts of L, then of U."""
+
+    counts: tuple
+    stores: tuple
+
+
+def plan_of(n, rows):
+    """The plan of a pattern, rows[i - 1] being the columns of row i."""
+    columns_of = {i: set(rows[i - 1]) for i in range(1, n + 1)}
+    lower, upper, handed, first_met, met, reads = {}, {}, {k: [] for k in range(1, n + 1)}, {}, set(), 0
+    for k in range(1, n + 1):
+        entered = [i for i in range(1, n + 1) if k in columns_of[i]]
+        first_met[k] = [i for i in entered if i not in met]
+        met.update(first_met[k])
+        lower[k], upper[k] = set(first_met[k]), set().union(*(columns_of[i] for i in first_met[k]))
+        for l in handed[k]:
+            lower[k] |= {i for i in lower[l] if i >= k}
+            upper[k] |= {j for j in upper[l] if j >= k}
+        reads += len(entered) + sum(len(columns_of[i]) for i in first_met[k])
+        reads += sum(len(lower[l]) + len(upper[l]) for l in handed[k])
+        if len(lower[k]) > 1:
+            handed[min(j for j in upper[k] if j > k)].append(k)
+    l_stores, u_stores = (shared(n, side, handed, first_met) for side in (lower, upper))
+    entries = sum(len(columns) for columns in columns_of.values())
+    counts = (n, entries, len(l_stores[0]), len(u_stores[0]), l_stores[2][-1], u_stores[2][-1], reads)
+    return Planned(counts, (*l_stores, *u_stores))
+
+
+def shared(n, side, handed, first_met):
+    """Shared subscripts of a side: subscripts, starts, slot starts."""
+    subscripts, starts, slots, last = [], [], [0], []
+    for k in range(1, n + 1):
+        kept = sorted(side[k] - {k})
+        if not kept:
+            start = len(subscripts)
+        elif len(handed[k]) == 1 and not first_met[k]:
+            start = starts[handed[k][0] - 1] + 1
+        else:
+            at_end = bool(starts) and starts[-1] + len(last) == len(subscripts)
+            longest = min(len(last), len(kept)) if at_end else 0
+            t = next(t for t in range(longest, -1, -1) if last[len(last) - t:] == kept[:t])
+            start = len(subscripts) - t
+            subscripts += kept[t:]
+        starts.append(start)
+        slots.append(slots[-1] + len(kept))
+        last = kept
+    return subscripts, starts, slots
+
+
+class State:
+    """The full square, its right side, pivot rows and updates, at some step."""
+
+    def __init__(self, square, right):
+        self.square, self.right = square.copy(), right.copy()
+        self.pivots, self.updates = np.full(len(right), -1), 0
+
+    def copy(self):
+        """The state as it is now."""
+        twin = State(self.square, self.right)
+        twin.pivots, twin.updates = self.pivots.copy(), self.updates
+        return twin
+
+    def step(self, k, p):
+        """Step k with pivot row p: 0, 13 or 14."""
+        square, right = self.square, self.right
+        if square[p, k] == 0:
+            return 13
+        square[[k, p], k:] = square[[p, k], k:]
+        right[[k, p]] = right[[p, k]]
+        self.pivots[k] = p
+        columns = k + 1 + np.flatnonzero(square[k, k + 1:])
+        for i in range(k + 1, len(right)):
+            if square[i, k] == 0:
+                continue
+            m = square[i, k] / square[k, k]
+            square[i, k] = m
+            if m == 0:
+                continue
+            products = m * square[k, columns]
+            square[i, columns] = square[i, columns] - products
+            self.updates += len(columns)
+            product = m * right[k]
+            right[i] = right[i] - product
+        # What is not finite stays so within its step: a product shows in its difference.
+        return 0 if np.isfinite(square).all() and np.isfinite(right).all() else 14
+
+    def back(self):
+        """Back substitution, in the right side: 0, or the row (from 1) that is not finite."""
+        for i in range(len(self.right) - 1, -1, -1):
+            total = self.right[i]
+            for j in i + 1 + np.flatnonzero(self.square[i, i + 1:]):
+                product = self.square[i, j] * self.right[j]
+                total = total - product
+            self.right[i] = total / self.square[i, i]
+            if not np.isfinite(self.right[i]):
+                return i + 1
+        return 0
+
+
+def largest(state, k):
+    """The row from k on with the largest magnitude in column k, the lowest if equal."""
+    return k + int(np.argmax(np.abs(state.square[k:, k])))
+
+
+def outcomes(square, right, choose, cuts):
+    """For each cut, and for None (whole): (number, step, state). `choose` gives the pivot row of a state and step."""
+    found, state, n = {}, State(square, right), len(right)
+    with np.errstate(all="ignore"):
+        for k in range(n + 1):
+            if k in cuts:
+                found[k] = (0, 0, state.copy())
+            number = state.step(k, choose(state, k)) if k < n else 0
+            if number:
+                stopped = (number, k + 1, None)
+                return {**{cut: stopped for cut in (*cuts, None)}, **found}
+        row = state.back()
+    found[None] = (14, row, None) if row else (0, 0, state)
+    return found

@@ -1,0 +1,219 @@
+"""Every refusal, 1 to 19, where a caller from Python can bring it about."""
+
+import pickle
+import struct
+import unittest
+
+import numpy as np
+
+from support import csr, dalumiveth, diagonal, four_fields, refusal_of
+
+
+class OfPatterns(unittest.TestCase):
+    def test_1_limits(self):
+        self.assertEqual(refusal_of(dalumiveth.plan, csr(0, [])), (1, 0))
+        self.assertEqual(refusal_of(dalumiveth.plan, diagonal(1025)), (1, 0))
+        self.assertEqual(dalumiveth.plan(diagonal(1024)).n, 1024)
+        self.assertEqual(refusal_of(dalumiveth.plan, four_fields()[0], most=3), (1, 0))
+        self.assertEqual(refusal_of(dalumiveth.plan, diagonal(3)._replace(shape=(2**70, 2**70))), (1, 0))
+        dense = csr(129, [range(129)] * 129)
+        self.assertEqual(refusal_of(dalumiveth.plan, dense), (1, 0))
+        self.assertEqual(dalumiveth.plan(csr(128, [range(128)] * 128)).counts.entries, 16384)
+
+    def test_2_starts(self):
+        matrix = four_fields()[0]
+        for indptr in ([0, 2, 4, 6], [1, 2, 4, 6, 9], [0, 4, 2, 6, 9], [0, 2, 4, 6, 8], [0, 2, 4, 6, 10], [0, -1, 4, 6, 9], []):
+            self.assertEqual(refusal_of(dalumiveth.plan, matrix._replace(indptr=np.array(indptr))), (2, 0), indptr)
+
+    def test_3_column(self):
+        for column in (2, -1, -2**62, 2**62):
+            self.assertEqual(refusal_of(dalumiveth.plan, csr(2, [[0], [1]])._replace(indices=np.array([0, column]))), (3, 0))
+
+    def test_4_order(self):
+        self.assertEqual(refusal_of(dalumiveth.plan, csr(2, [[0], [1, 1]])), (4, 0))
+        self.assertEqual(refusal_of(dalumiveth.plan, csr(2, [[0], [1, 0, 1]])), (4, 0))
+
+    def test_5_diagonal(self):
+        self.assertEqual(refusal_of(dalumiveth.plan, csr(2, [[0, 1], [0]])), (5, 0))
+
+    def test_7_and_8_room(self):
+        matrix = four_fields()[0]
+        dalumiveth.plan(matrix, room=2)
+        self.assertEqual(refusal_of(dalumiveth.plan, matrix, room=0), (7, 1))
+        self.assertEqual(refusal_of(dalumiveth.plan, matrix, room=(1, 2)), (7, 2))
+        self.assertEqual(refusal_of(dalumiveth.plan, matrix, room=(2, 0)), (8, 1))
+        self.assertEqual(refusal_of(dalumiveth.plan, matrix, room=(2, 1)), (8, 2))
+
+
+class OfPlans(unittest.TestCase):
+    """A plan is verified in every run."""
+
+    def setUp(self):
+        self.matrix, self.right = four_fields()
+        self.plan = dalumiveth.plan(self.matrix)
+
+    def refused(self, plan, matrix=None):
+        """The refusal of a run; of `verify` and of a cut run it is the same."""
+        matrix = self.matrix if matrix is None else matrix
+        of_run = refusal_of(plan.run, matrix, np.ones(matrix.shape[0]))
+        self.assertEqual(refusal_of(plan.run, matrix, np.ones(matrix.shape[0]), steps=0), of_run)
+        self.assertEqual(refusal_of(plan.verify, matrix), of_run)
+        return of_run
+
+    def test_6_length_of_starts(self):
+        for name in ("l_starts", "l_slots", "u_starts", "u_slots"):
+            longer = np.append(getattr(self.plan.stores, name), np.uint64(0))
+            stores = self.plan.stores._replace(**{name: longer})
+            self.assertEqual(self.refused(dalumiveth.Plan(self.plan.pattern, self.plan.counts, stores)), (6, 0))
+
+    def test_6_other_n(self):
+        self.assertEqual(self.refused(self.plan, diagonal(5)), (6, 0))
+
+    def test_9_tampered_stores(self):
+        self.assertIsNone(refusal_of(self.plan.verify))
+        for name, store in self.plan.stores._asdict().items():
+            with self.assertRaises(ValueError):
+                store[0] = 1  # write-protected
+            for place in range(store.size):
+                store.flags.writeable = True
+                kept, store[place] = store[place], store[place] + np.uint64(1)
+                self.assertEqual(self.refused(self.plan), (9, 0), (name, place))
+                store[place] = kept
+        self.assertEqual(self.plan.run(self.matrix, self.right).x.tolist(), [1, 1, 1, 1])
+
+    def test_9_tampered_counts(self):
+        for name, count in self.plan.counts._asdict().items():
+            for other in (count + 1, count - 1, 0, 2**60):
+                counts = self.plan.counts._replace(**{name: other})
+                self.assertEqual(self.refused(dalumiveth.Plan(self.plan.pattern, counts, self.plan.stores)), (9, 0), name)
+
+    def test_9_other_pattern(self):
+        self.assertEqual(self.refused(self.plan, diagonal(4)), (9, 0))
+
+    def test_pattern_without_plan(self):
+        matrix = csr(4, [[0, 2], [1, 3], [0, 2], [1, 2]], np.ones(8))
+        self.assertEqual(self.refused(self.plan, matrix), (5, 0))
+
+
+class OfRuns(unittest.TestCase):
+    def setUp(self):
+        self.matrix, self.right = four_fields()
+        self.plan = dalumiveth.plan(self.matrix)
+
+    def test_10_lengths(self):
+        self.assertEqual(refusal_of(self.plan.run, np.ones(8), self.right), (10, 0))
+        self.assertEqual(refusal_of(self.plan.run, np.ones(10), self.right), (10, 0))
+        self.assertEqual(refusal_of(self.plan.run, self.matrix, np.ones(3)), (10, 0))
+        self.assertEqual(refusal_of(self.plan.run, self.matrix, np.ones(5)), (10, 0))
+        self.assertEqual(refusal_of(self.plan.run, self.matrix._replace(data=np.ones(10)), self.right), (10, 0))
+
+    def test_11_not_finite(self):
+        for bad in (np.inf, -np.inf, np.nan):
+            for place in range(9):
+                values = self.matrix.data.copy()
+                values[place] = bad
+                self.assertEqual(refusal_of(self.plan.run, values, self.right), (11, 0))
+            for place in range(4):
+                right = self.right.copy()
+                right[place] = bad
+                self.assertEqual(refusal_of(self.plan.run, self.matrix, right), (11, 0))
+
+    def test_12_list_and_steps(self):
+        for rows in ([0, 1, 2], [0, 1, 2, 3, 3], [], [0, 0, 2, 3], [4, 1, 2, 3], [-1, 1, 2, 3], [0, 1, 2, 2]):
+            self.assertEqual(refusal_of(self.plan.run, self.matrix, self.right, rows), (12, 0), rows)
+        wrapping = np.array([2**64 - 1, 1, 2, 3], dtype=np.uint64)
+        self.assertEqual(refusal_of(self.plan.run, self.matrix, self.right, wrapping), (12, 0))
+        for steps in (5, 2**64, 2**200):
+            self.assertEqual(refusal_of(self.plan.run, self.matrix, self.right, steps=steps), (12, 0))
+            self.assertEqual(refusal_of(self.plan.run, self.matrix, self.right, [0, 1, 2, 3], steps), (12, 0))
+
+    def test_13_no_pivot(self):
+        singular = csr(3, [[0, 1], [0, 1], [2]], [1, 2, 2, 4, 1])
+        plan = dalumiveth.plan(singular)
+        self.assertEqual(refusal_of(plan.run, singular, np.ones(3)), (13, 2))
+        self.assertEqual(refusal_of(plan.run, singular, np.ones(3), steps=2), (13, 2))
+        self.assertIsNone(refusal_of(plan.run, singular, np.ones(3), steps=1))
+        self.assertEqual(refusal_of(dalumiveth.splu, singular), (13, 2))
+
+    def test_14_not_finite(self):
+        quotient = csr(2, [[0, 1], [0, 1]], [1e-300, 1, 1e300, 1])
+        plan = dalumiveth.plan(quotient)
+        self.assertEqual(refusal_of(plan.run, quotient, np.ones(2), [0, 1]), (14, 1))
+        self.assertIsNone(refusal_of(plan.run, quotient, np.ones(2)))
+        product = csr(2, [[0, 1], [0, 1]], [1, 1e300, 1e10, 1])
+        self.assertEqual(refusal_of(plan.run, product, np.ones(2), [0, 1]), (14, 1))
+        difference = csr(2, [[0, 1], [0, 1]], [1, 1.7e308, -1, 1.7e308])
+        self.assertEqual(refusal_of(plan.run, difference, np.ones(2), [0, 1]), (14, 1))
+        right = csr(2, [[0, 1], [0, 1]], [1, 0, 1e10, 1])
+        self.assertEqual(refusal_of(plan.run, right, np.array([1e300, 0]), [0, 1]), (14, 1))
+
+    def test_14_in_back_substitution(self):
+        matrix = csr(3, [[0], [1], [2]], [1, 1e-300, 1])
+        plan = dalumiveth.plan(matrix)
+        self.assertEqual(refusal_of(plan.run, matrix, np.array([1, 1e300, 1])), (14, 2))
+        self.assertIsNone(refusal_of(plan.run, matrix, np.array([1, 1e300, 1]), steps=3))
+
+    def test_order_of_the_table(self):
+        """9 before 10, 10 before 11, 11 before 12, 12 before 13."""
+        spoilt = self.matrix._replace(data=np.full(9, np.nan))
+        self.assertEqual(refusal_of(self.plan.run, diagonal(4, np.ones(3)), np.ones(3)), (9, 0))
+        self.assertEqual(refusal_of(self.plan.run, spoilt, np.ones(3)), (10, 0))
+        self.assertEqual(refusal_of(self.plan.run, spoilt, self.right, [0]), (11, 0))
+        self.assertEqual(refusal_of(self.plan.run, np.zeros(9), self.right, [0]), (12, 0))
+
+
+class OfJobs(unittest.TestCase):
+    ONE = b"N\x01\x00R\x01\x00E\x01\x00" + struct.pack("<d", 2) + b"B" + struct.pack("<d", 4) + b"Z"
+
+    def test_15_to_18(self):
+        self.assertIn(b"updates 0\n", dalumiveth.job(self.ONE))
+        self.assertEqual(dalumiveth.job(b"Q"), b"refused 15 0\n")
+        self.assertEqual(dalumiveth.job(self.ONE.replace(b"R\x01", b"R\x02")), b"refused 15 0\n")
+        self.assertEqual(dalumiveth.job(b""), b"refused 16 0\n")
+        for size in range(len(self.ONE)):
+            self.assertEqual(dalumiveth.job(self.ONE[:size]), b"refused 16 0\n", size)
+        self.assertEqual(dalumiveth.job(self.ONE + b"Z"), b"refused 17 0\n")
+        self.assertEqual(dalumiveth.job(bytes(16385)), b"refused 18 0\n")
+        self.assertEqual(dalumiveth.job(bytes(16384)), b"refused 15 0\n")
+
+    def test_no_bytes(self):
+        for data in ("N", None, [1, 2]):
+            with self.assertRaises(TypeError):
+                dalumiveth.job(data)
+
+
+class OfTallies(unittest.TestCase):
+    def test_19(self):
+        tally = dalumiveth.Tally()
+        self.assertEqual(tally.add(3), 3)
+        self.assertEqual(tally.add(2**32 - 5), 2**32 - 2)
+        for updates in (2, 2**32, 2**64 - 1, 2**64, 2**200):
+            self.assertEqual(refusal_of(tally.add, updates), (19, 0))
+            self.assertEqual(tally.sum, 2**32 - 2)
+        self.assertEqual(tally.add(1), 2**32 - 1)
+        self.assertEqual(tally.add(0), 2**32 - 1)
+        self.assertEqual(refusal_of(dalumiveth.Tally(2**32 - 1).add, 1), (19, 0))
+
+    def test_no_sum(self):
+        for value in (-1, 2**32):
+            with self.assertRaises(ValueError):
+                dalumiveth.Tally(value)
+        with self.assertRaises(ValueError):
+            dalumiveth.Tally().add(-1)
+        with self.assertRaises(TypeError):
+            dalumiveth.Tally().add(1.0)
+
+
+class Sentences(unittest.TestCase):
+    def test_nineteen(self):
+        self.assertEqual(sorted(dalumiveth.SENTENCES), list(range(1, 20)))
+        for number in dalumiveth.SENTENCES:
+            refusal = dalumiveth.Refusal(number, 7)
+            self.assertIn(refusal.sentence, str(refusal))
+            self.assertIn(refusal.where, ("pattern", "plan stores", "values", "run", "job", "tally"))
+            again = pickle.loads(pickle.dumps(refusal))
+            self.assertEqual((again.number, again.step, str(again)), (number, 7, str(refusal)))
+
+
+if __name__ == "__main__":
+    unittest.main()
