@@ -210,6 +210,61 @@ def planned(cases, rng):
         cases.plan(sparse(rng, 300, more, reach))
 
 
+def ways(cases, rows):
+    """For each step at which one row joins the list of the step before: whether it only adds behind it on both sides ("behind"), or what
+    stands against that: the list of a side does not end its store ("end"), the row lies between ("row"), a column is no member ("column")."""
+    n = len(rows)
+    plan = cases.dense.make_plan(n, {i: r for i, r in enumerate(rows, 1)})
+    first_met, steps = ([[] for _ in range(n + 2)] for _ in "rs")
+    for i, row in enumerate(rows, 1):
+        first_met[row[0]].append(i)
+    for k in range(1, n + 1):
+        if plan.l_side.kept[k]:
+            steps[plan.u_side.kept[k][0]].append(k)
+    found, used = set(), {side: [0] for side in (plan.l_side, plan.u_side)}
+    for k in range(1, n + 1):                           # how long each store is after k steps
+        for side, sizes in used.items():
+            sizes.append(max(sizes[-1], side.start[k] + len(side.kept[k])))
+    for k in range(2, n + 1):
+        if len(first_met[k]) != 1 or steps[k] != [k - 1]:
+            continue
+        row = first_met[k][0]
+        lasts = {side: [x for x in side.kept[k - 1] if x != k] for side in used}
+        if any(side.start[k - 1] + len(side.kept[k - 1]) != sizes[k - 1] for side, sizes in used.items()):
+            found.add("end")
+        elif row != k and any(x > row for x in lasts[plan.l_side]):
+            found.add("row")
+        elif any(x != k and x < max(lasts[plan.u_side], default=0) and x not in lasts[plan.u_side] for x in rows[row - 1]):
+            found.add("column")
+        else:
+            found.add("behind")
+    return found
+
+
+def short_ways(cases, rng):
+    """Patterns at which a row joins the list of the step before: it only adds behind it, or something stands against that."""
+    count = {"behind": 0, "end": 0, "row": 0, "column": 0}
+    for side in (5, 7):
+        cases.plan(grid(side))
+    for reach in (1, 2, 3, 5):
+        for n in (2, 3, 9, 30):
+            cases.plan(shape(n, lambda i, j: abs(i - j) <= reach))
+    while min(count.values()) < 30:
+        n = rng.randint(4, 30)
+        rows = [set(range(max(1, i - rng.randint(0, 3)), min(n, i + rng.randint(0, 4)) + 1)) for i in range(1, n + 1)]
+        for _ in range(rng.randint(0, 4)):
+            i = rng.randint(1, n)
+            rows[i - 1] ^= {rng.randint(1, n)} - {i}
+        rows = [sorted(row) for row in rows]
+        found = ways(cases, rows)
+        if any(count[way] < 30 for way in found):
+            for way in found:
+                count[way] += 1
+            cases.plan(rows, rng.choice((0, 0, 1)), rng.choice((0, 0, 2)))
+            cases.plan(rows, rng.choice((0, -1)), rng.choice((0, -1)))
+    return count
+
+
 def large(cases, rng):
     strip = shape(1024, lambda i, j: abs(i - j) == 1)
     cases.plan(strip, 1, 2)
@@ -373,6 +428,7 @@ def main():
     refused_6(cases)
     refused_7_and_8(cases, rng)
     orders(cases, rng)
+    short = short_ways(cases, rng)
     assert all(cases.answers.get(number, 0) >= 10 for number in range(9)), cases.answers
     # the last request asks for more columns than the program has: it ends the program
     cases.words += [1024, 1, 2, 16401] + [1] * 12
@@ -382,7 +438,7 @@ def main():
         file.write(struct.pack(f"<{len(cases.words)}H", *cases.words))
     with open(os.path.join(folder, "stdout"), "w") as file:
         file.write("\n".join(cases.lines) + "\n")
-    print(f"{cases.count} cases; answers by number (0: planned) {dict(sorted(cases.answers.items()))}; "
+    print(f"{cases.count} cases; rows that join the list before: {short}; answers by number (0: planned) {dict(sorted(cases.answers.items()))}; "
           f"7 at steps {sorted(cases.steps[7])}, 8 at steps {sorted(cases.steps[8])}")
 
 

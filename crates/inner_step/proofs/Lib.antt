@@ -3,3 +3,4 @@ pub mod Filled
 pub mod Placing
 pub mod Lists
 pub mod Stepping
+pub mod Short

@@ -2,3 +2,4 @@
 pub mod Filled
 pub mod Placing
 pub mod Stepping
+pub mod Short

@@ -1,4 +1,5 @@
 // One step of planning, in lent stores.
+mod appending;
 mod place;
 mod step;
 

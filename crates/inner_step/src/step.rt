@@ -9,6 +9,8 @@ ghost use Rattle.inner_gathering.specs.Contains.{used};
 ghost use Rattle.inner_gathering.specs.Steps.{StepOf, ChainsOf, ChainsAt, EndsAre};
 ghost use Rattle.inner_step.specs.Filled.{BothFilled};
 ghost use Rattle.inner_step.specs.Stepping.{ListsAs, TurnedAs};
+use crate::appending::Short;
+use crate::appending::append_lists;
 use crate::place::plan_side;
 use answers::SubscriptPlace;
 use inner_gathering::hand_on;
@@ -100,6 +102,78 @@ pub fn plan_lists(
     Lists::Both(l_next, u_next)
 }
 
+// The lists of step k on both sides, the short way where it can be gone.
+fn step_lists(
+    n: usize,
+    k: usize,
+    row: usize,
+    row_links: &[usize],
+    set: usize,
+    set_links: &[usize],
+    starts: &[usize],
+    columns: &[usize],
+    l_subs: &mut [usize],
+    l_starts: &mut [usize],
+    l_slots: &mut [usize],
+    u_subs: &mut [usize],
+    u_starts: &mut [usize],
+    u_slots: &mut [usize],
+    list: &mut [usize],
+    spare: &mut [usize],
+    l_end: SubscriptPlace,
+    u_end: SubscriptPlace,
+) -> Lists
+    requires { ⌜ StepOf (lent n (now starts) (now columns)) n k × ChainsOf (lent n (now starts) (now columns)) k row (now «row_links») set (now «set_links») × (set < length (now «set_links»)) ⌝ }
+    requires { ⌜ BothFilled (lent n (now starts) (now columns)) n (k - 1) (length (now «l_subs»)) (length (now «u_subs»)) (now «l_subs») (now «l_starts») (now «l_slots») (now «u_subs») (now «u_starts») (now «u_slots») ⌝ }
+    requires { ⌜ («l_end» .0 ≡ used (planOf (lent n (now starts) (now columns))) lower (k - 1)) × («u_end» .0 ≡ used (planOf (lent n (now starts) (now columns))) upper (k - 1)) ⌝ }
+    requires { ⌜ (length (now list) ≡ n) × (length (now spare) ≡ n) ⌝ }
+    ensures { λ r. ⌜ ListsAs r (lent n (now (starts .entry)) (now (columns .entry))) n k (length (now («l_subs» .entry))) (length (now («u_subs» .entry))) (now («l_subs» .exit)) (now («l_starts» .exit)) (now («l_slots» .exit)) (now («u_subs» .exit)) (now («u_starts» .exit)) (now («u_slots» .exit)) ⌝ }
+{
+    let short = append_lists(
+        n,
+        k,
+        row,
+        row_links,
+        set,
+        set_links,
+        starts,
+        columns,
+        l_subs,
+        l_starts,
+        l_slots,
+        u_subs,
+        u_starts,
+        u_slots,
+        l_end,
+        u_end,
+    );
+    match short {
+        Short::Both(l_next, u_next) => Lists::Both(l_next, u_next),
+        Short::LowerFull => Lists::LowerShort,
+        Short::UpperFull => Lists::UpperShort,
+        Short::Longer => plan_lists(
+            n,
+            k,
+            row,
+            row_links,
+            set,
+            set_links,
+            starts,
+            columns,
+            l_subs,
+            l_starts,
+            l_slots,
+            u_subs,
+            u_starts,
+            u_slots,
+            list,
+            spare,
+            l_end,
+            u_end,
+        ),
+    }
+}
+
 // How a step ends: on to the next with where both stores end and the reads so far, or with the first side that is full.
 pub enum Turned {
     On(SubscriptPlace, SubscriptPlace, usize),
@@ -149,7 +223,7 @@ pub fn plan_step(
         l_slots,
         u_slots,
     );
-    let lists = plan_lists(
+    let lists = step_lists(
         n,
         k,
         row,

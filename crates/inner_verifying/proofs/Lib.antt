@@ -3,3 +3,4 @@ pub mod Verifying
 pub mod Coursing
 pub mod Counting
 pub mod Answering
+pub mod Short

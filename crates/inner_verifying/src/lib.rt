@@ -1,4 +1,5 @@
 // A lent plan compared with a pattern's plan, in work stores as they are lent.
+mod appending;
 mod call;
 mod step_lists;
 mod steps;

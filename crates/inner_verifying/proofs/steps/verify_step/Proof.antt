@@ -22,8 +22,8 @@ slice-read-set c = search needs
 step-total-requires : tie.Need-step-total-requires
 step-total-requires c κs = verify-total-asks (c .before .before .before .before .before .before .before .before .before .before .before .before .before .before .before .before .before .pre .0) (c .before .before .before .before .before .before .before .before .before .before .before .before .before .before .before .before .before .pre .1 .0)
 
-verify-lists-requires : tie.Need-verify-lists-requires
-verify-lists-requires c κs = verify-lists-ask (c .before .before .before .before .before .before .before .before .before .before .before .before .before .before .before .before .before .before .before .before .before .pre .0) (c .before .before .before .before .before .before .before .before .before .before .before .before .before .before .before .before .before .before .before .before .before .pre .1 .0) (c .before .before .before .before .before .before .before .before .before .before .before .before .before .before .before .before .before .before .before .before .before .pre .1 .1 .0) (c .before .before .before .before .before .before .before .before .before .before .before .before .before .before .before .before .before .before .before .before .before .pre .1 .1 .1)
+found-lists-requires : tie.Need-found-lists-requires
+found-lists-requires c κs = verify-lists-ask (c .before .before .before .before .before .before .before .before .before .before .before .before .before .before .before .before .before .before .before .before .before .pre .0) (c .before .before .before .before .before .before .before .before .before .before .before .before .before .before .before .before .before .before .before .before .before .pre .1 .0) (c .before .before .before .before .before .before .before .before .before .before .before .before .before .before .before .before .before .before .before .before .before .pre .1 .1 .0) (c .before .before .before .before .before .before .before .before .before .before .before .before .before .before .before .before .before .before .before .before .before .pre .1 .1 .1)
 
 enum-told : tie.Need-enum-told
 enum-told c = search needs
@@ -33,7 +33,7 @@ enum-known-lists c = search needs
 
 hand-on-requires : tie.Need-hand-on-requires
 hand-on-requires c κs =
-    let lists = rw (c .before .before .before .lists .given .1) at (c .before .before .before .before .before .before .before .before .before .verify-lists .ensures) in
+    let lists = rw (c .before .before .before .lists .given .1) at (c .before .before .before .before .before .before .before .before .before .found-lists .ensures) in
     verify-hand-asks (c .before .before .before .before .before .before .before .before .before .before .before .before .before .before .before .before .before .before .before .before .before .before .before .before .before .before .before .before .before .before .before .pre .0) (lists .2)
 
 add-t44 : tie.Need-add-t44
@@ -49,7 +49,7 @@ same-length-3 : tie.Need-same-length-3
 same-length-3 c = search needs
 
 returns : tie.Need-returns
-returns c = rw (c .enum-told .given .1) at (c .before .before .before .before .before .before .verify-lists .ensures)
+returns c = rw (c .enum-told .given .1) at (c .before .before .before .before .before .before .found-lists .ensures)
 
 same-length-4 : tie.Need-same-length-4
 same-length-4 c = search needs
@@ -65,7 +65,7 @@ same-length-7 c = search needs
 
 returns-2 : tie.Need-returns-2
 returns-2 c =
-    let lists = rw (c .before .before .before .before .before .before .before .before .lists .given .1) at (c .before .before .before .before .before .before .before .before .before .before .before .before .before .before .verify-lists .ensures) in
+    let lists = rw (c .before .before .before .before .before .before .before .before .lists .given .1) at (c .before .before .before .before .before .before .before .before .before .before .before .before .before .before .found-lists .ensures) in
     verify-on (c .before .before .before .before .before .before .before .before .before .before .before .before .before .before .before .before .before .before .before .before .before .before .before .before .before .before .before .before .before .before .before .before .before .before .before .before .pre .0) (c .before .before .before .before .before .before .before .before .before .before .before .before .before .before .before .before .before .before .before .before .before .before .before .before .before .before .before .before .before .before .before .before .before .before .before .before .pre .1 .1 .0) (c .before .before .before .before .before .before .before .before .before .before .before .before .before .before .before .before .before .before .step-total .ensures) lists (c .before .before .before .before .hand-on .ensures)
 
 pub verify-step-spec : {M : Type 1} → statement M
@@ -77,7 +77,7 @@ verify-step-spec =
     mul-set
     slice-read-set
     step-total-requires
-    verify-lists-requires
+    found-lists-requires
     enum-told
     enum-known-lists
     hand-on-requires

@@ -1,0 +1,4 @@
+-- Laws that the proofs of the functions share.
+pub mod Passing
+pub mod Rest
+pub mod Joining
