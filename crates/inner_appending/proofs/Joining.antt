@@ -1,5 +1,5 @@
 -- One row joins the list of the step before: what the list of the step then is, and how much of it the store has already.
-use mathlib.Core.Bool.{Bool, true, false, _||_}
+use mathlib.Core.Bool.{Bool, true, false, false≢true, _||_}
 use mathlib.Core.List.{List, [], _∷_, _++_}
 use mathlib.Core.Logic.{⊎-elim}
 use mathlib.Core.Path.{_≡_, refl, sym, ap, _∙_}
@@ -19,7 +19,7 @@ use Rattle.foundation.specs.Plan.{Side, lower, upper, brings}
 use Rattle.foundation.specs.Subscripts.{kept, shared, sharedEnd, soleStep}
 use Rattle.inner_stores.specs.Chains.{Linked, span}
 use Rattle.inner_stores.proofs.Chaining.{linked-end, linked-next}
-use Rattle.inner_gathering.specs.Ready.{Ready, planOf}
+use Rattle.inner_gathering.specs.Ready.{Ready, planOf, sideOf}
 use Rattle.inner_gathering.specs.Gathering.{without, omit, Within}
 use Rattle.inner_gathering.specs.Contains.{used, Contains}
 use Rattle.inner_gathering.specs.Steps.{StepOf, ChainsOf}
@@ -244,29 +244,32 @@ added-as Elsewhere start count end last more j read end-is s c ends l m found = 
 
 -- the row itself, where it is added to L
 pub own-rest :
-    {p : Lent} {k t from : ℕ} (row : ℕ) → (from ≤ length (brings (patternOf p) lower row)) × RestOf p lower k t (drop from (brings (patternOf p) lower row))
-    → (from ≤ 1) × RestOf p lower k t (take (1 - from) (drop from (row ∷ [])))
+    (up : Bool) {p : Lent} {k t from : ℕ} (row : ℕ) → up ≡ false
+    → (from ≤ length (brings (patternOf p) (sideOf up) row)) × RestOf p (sideOf up) k t (drop from (brings (patternOf p) (sideOf up) row))
+    → (from ≤ 1) × RestOf p (sideOf up) k t (take (1 - from) (drop from (row ∷ [])))
 unfolding brings
-own-rest {from = from} row (few, found) =
+own-rest true row e h = absurd (false≢true (sym e))
+own-rest false {from = from} row e (few, found) =
     let all : take (1 - from) (drop from (row ∷ [])) ≡ drop from (row ∷ []) = take-all (1 - from) (drop from (row ∷ [])) (rw length-drop (omega arith)) in
     (few, rw all found)
 
 -- The columns of a row from a place on, where they are added to U.
-pub record ColumnsRead (n : ℕ) (starts columns : List ℕ) (k t from row : ℕ) : Type 0 where
+pub record ColumnsRead (up : Bool) (n : ℕ) (starts columns : List ℕ) (k t from row : ℕ) : Type 0 where
   pub low : 1 ≤ row
   pub high : row < length starts
   pub rising : getD starts (row - 1) 0 + from ≤ getD starts row 0
   pub inside : getD starts row 0 ≤ length columns
   pub few : length columns ≤ 16384
-  pub found : RestOf (lent n starts columns) upper k t (take (getD starts row 0 - (getD starts (row - 1) 0 + from)) (drop (getD starts (row - 1) 0 + from) columns))
+  pub found : RestOf (lent n starts columns) (sideOf up) k t (take (getD starts row 0 - (getD starts (row - 1) 0 + from)) (drop (getD starts (row - 1) 0 + from) columns))
 
 pub columns-rest :
-    {n : ℕ} {starts columns : List ℕ} {k t from row : ℕ} → JoinsLast (lent n starts columns) n k row
-    → (from ≤ length (brings (patternOf (lent n starts columns)) upper row))
-    × RestOf (lent n starts columns) upper k t (drop from (brings (patternOf (lent n starts columns)) upper row))
-    → ColumnsRead n starts columns k t from row
+    (up : Bool) {n : ℕ} {starts columns : List ℕ} {k t from row : ℕ} → up ≡ true → JoinsLast (lent n starts columns) n k row
+    → (from ≤ length (brings (patternOf (lent n starts columns)) (sideOf up) row))
+    × RestOf (lent n starts columns) (sideOf up) k t (drop from (brings (patternOf (lent n starts columns)) (sideOf up) row))
+    → ColumnsRead up n starts columns k t from row
 unfolding maxEntries lent
-columns-rest {n} {starts} {columns} {k} {t} {from} {row} j (few, found) =
+columns-rest false e j h = absurd (false≢true e)
+columns-rest true {n} {starts} {columns} {k} {t} {from} {row} e j (few, found) =
     let read = row-of j in
     let is = upper-brings n starts columns (j .step .ready) k (j .step .low) (j .step .high) true row (row-met j) refl in
     let a : ℕ = getD starts (row - 1) 0 in

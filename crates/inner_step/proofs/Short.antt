@@ -1,4 +1,4 @@
--- The rest of a list is written into stores filled with the steps before, and both sides of a step the short way.
+-- The rest of a list is written into stores filled with the steps before.
 use mathlib.Core.List.{List, _++_}
 use mathlib.Core.Path.{_≡_, sym, ap, _∙_}
 use Prim.Native.Nat.{ℕ, suc, _+_, _-_, _≤_, _<_}
@@ -6,7 +6,7 @@ use native.Mathlib.Omega.{arith}
 use lib.ListN.{length, take, drop, set, getD, length-drop, length-append}
 use lib.Seq.{length-take-le}
 use Rattle.foundation.specs.Pattern.{Lent}
-use Rattle.foundation.specs.Plan.{Side, lower, upper}
+use Rattle.foundation.specs.Plan.{Planning, Side}
 use Rattle.foundation.specs.Subscripts.{kept, soleStep}
 use Rattle.inner_gathering.specs.Ready.{planOf}
 use Rattle.inner_gathering.specs.Contains.{used, Contains}
@@ -16,10 +16,8 @@ use Rattle.inner_sharing.specs.declared.write.Placed.the-variants.{End, Short}
 use Rattle.inner_appending.specs.Joining.{JoinsLast}
 use Rattle.inner_appending.specs.Rest.{RestOf, RestWritable, RestWritten}
 use Rattle.inner_appending.proofs.Rest.{rest-length, rest-writable, rest-added, rest-start, rest-used}
-use Rattle.inner_step.specs.Filled.{Filled, BothFilled}
+use Rattle.inner_step.specs.Filled.{Filled}
 use Rattle.inner_step.specs.Placing.{PlacedAs}
-use Rattle.inner_step.specs.Stepping.{ListsAs}
-use Rattle.inner_step.specs.declared.step.Lists.{Lists}
 use Rattle.inner_step.proofs.Filled.{filled-next, filled-contains, filled-room}
 
 -- where a list was written and the store kept its length, the list fits
@@ -82,17 +80,14 @@ behind-asks {p} {side} {n} {k} {subs = subs} {starts = starts} {slots = slots} j
     let high = j .step .high in
     (j, (filled-contains (planOf p) side n (k - 1) _ subs starts slots filled (omega arith), end-is))
 
--- the rooms of stores that are filled are their lengths
-pub both-room :
-    {p : Lent} {n k roomL roomU : ℕ} {lSubs lStarts lSlots uSubs uStarts uSlots : List ℕ}
-    → BothFilled p n k roomL roomU lSubs lStarts lSlots uSubs uStarts uSlots
-    → BothFilled p n k (length lSubs) (length uSubs) lSubs lStarts lSlots uSubs uStarts uSlots
-both-room {p} {n} {k} {roomL} {roomU} {lSubs} {lStarts} {lSlots} {uSubs} {uStarts} {uSlots} both =
-    rw (filled-room (planOf p) lower n k roomL lSubs lStarts lSlots (both .lowers), filled-room (planOf p) upper n k roomU uSubs uStarts uSlots (both .uppers))
-    both
+-- the room of a store that is filled is its length
+pub own-room :
+    {s : Planning} {side : Side} {n k room : ℕ} {subs starts slots : List ℕ} → Filled s side n k room subs starts slots
+    → Filled s side n k (length subs) subs starts slots
+own-room {s} {side} {n} {k} {room} {subs} {starts} {slots} filled = rw (filled-room s side n k room subs starts slots filled) filled
 
--- what the lists of a step come to, with the rooms told otherwise
-pub lists-room :
-    (r : Lists) (p : Lent) (n k roomL roomU roomL′ roomU′ : ℕ) (lSubs lStarts lSlots uSubs uStarts uSlots : List ℕ) → roomL ≡ roomL′ → roomU ≡ roomU′
-    → ListsAs r p n k roomL roomU lSubs lStarts lSlots uSubs uStarts uSlots → ListsAs r p n k roomL′ roomU′ lSubs lStarts lSlots uSubs uStarts uSlots
-lists-room r p n k roomL roomU roomL′ roomU′ lSubs lStarts lSlots uSubs uStarts uSlots e f h = rw (e, f) at h
+-- how a list was placed, with the room told otherwise
+pub placed-room :
+    (r : Placed) (p : Lent) (side : Side) (n k room room′ : ℕ) (subs starts slots : List ℕ) → room ≡ room′ → PlacedAs r p side n k room subs starts slots
+    → PlacedAs r p side n k room′ subs starts slots
+placed-room r p side n k room room′ subs starts slots e h = rw e at h

@@ -5,13 +5,13 @@ use Prim.Native.Nat.{ℕ, suc, _+_, _-_, _≤_, _<_}
 use native.Mathlib.Omega.{arith}
 use lib.ListN.{length, getD}
 use Rattle.foundation.specs.Pattern.{Lent, patternOf}
-use Rattle.foundation.specs.Plan.{lower, upper, after}
+use Rattle.foundation.specs.Plan.{Side, lower, upper, after}
 use Rattle.inner_stores.specs.Chains.{Chained}
 use Rattle.inner_gathering.specs.Ready.{planOf}
 use Rattle.inner_gathering.specs.Contains.{used, Contains}
 use Rattle.inner_gathering.specs.Steps.{StepOf, ChainsOf, BothSlots, moreReads, ChainsAt, EndsAre}
 use Rattle.inner_gathering.proofs.Coursing.{chains-at, set-inside, reads-more}
-use Rattle.inner_step.specs.Filled.{BothFilled}
+use Rattle.inner_step.specs.Filled.{Filled, BothFilled}
 use Rattle.inner_step.proofs.Filled.{filled-contains}
 
 -- ---- the stores at a step
@@ -43,17 +43,15 @@ total-asks (step, chains) both =
       both-slots _ _ _ _ _ _ _ _ _ _ _ (omega arith) both,
     )
 
--- its lists are made
-pub lists-ask :
-    {p : Lent} {n k roomL roomU l u reads listSize spareSize : ℕ} {rowHeads rowLinks setHeads setLinks lSubs lStarts lSlots uSubs uStarts uSlots : List ℕ}
-    → StepOf p n k × ChainsAt p n (k - 1) rowHeads rowLinks setHeads setLinks
-    → BothFilled p n (k - 1) roomL roomU lSubs lStarts lSlots uSubs uStarts uSlots
-    → EndsAre p (k - 1) l u reads → (listSize ≡ n) × (spareSize ≡ n)
+-- a side's list is made
+pub side-asks :
+    {p : Lent} {side : Side} {n k end listSize spareSize : ℕ} {rowHeads rowLinks setHeads setLinks subs starts slots : List ℕ}
+    → StepOf p n k × ChainsAt p n (k - 1) rowHeads rowLinks setHeads setLinks → Filled (planOf p) side n (k - 1) (length subs) subs starts slots
+    → end ≡ used (planOf p) side (k - 1) → (listSize ≡ n) × (spareSize ≡ n)
     → (StepOf p n k × ChainsOf p k (getD rowHeads k 0) rowLinks (getD setHeads k 0) setLinks × (getD setHeads k 0 < length setLinks))
-    × (BothFilled p n (k - 1) roomL roomU lSubs lStarts lSlots uSubs uStarts uSlots
-    × (((l ≡ used (planOf p) lower (k - 1)) × (u ≡ used (planOf p) upper (k - 1))) × ((listSize ≡ n) × (spareSize ≡ n))))
-lists-ask (step, chains) both ends sizes =
-    ((step, chains-at _ _ _ _ _ _ _ step chains, set-inside _ _ _ _ _ _ _ step chains), (both, ((ends .lower-end, ends .upper-end), sizes)))
+    × (Filled (planOf p) side n (k - 1) (length subs) subs starts slots × ((end ≡ used (planOf p) side (k - 1)) × ((listSize ≡ n) × (spareSize ≡ n))))
+side-asks (step, chains) filled ends sizes =
+    ((step, chains-at _ _ _ _ _ _ _ step chains, set-inside _ _ _ _ _ _ _ step chains), (filled, (ends, sizes)))
 
 -- it is handed on
 pub hand-asks :

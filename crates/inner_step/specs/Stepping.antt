@@ -8,17 +8,8 @@ use Rattle.inner_gathering.specs.Ready.{planOf}
 use Rattle.inner_gathering.specs.Contains.{used}
 use Rattle.inner_gathering.specs.Steps.{ChainsAt, EndsAre}
 use Rattle.inner_step.specs.Filled.{BothFilled}
-use Rattle.inner_step.specs.declared.step.Lists.{Lists}
-use Rattle.inner_step.specs.declared.step.Lists.the-variants.{Both, LowerShort, UpperShort}
 use Rattle.inner_step.specs.declared.step.Turned.{Turned}
 use Rattle.inner_step.specs.declared.step.Turned.the-variants.{On, LowerFull, UpperFull}
-
--- after the lists of step k: both sides are filled with them, or the first side whose subscripts do not fit
-abbrev pub ListsAs : Lists → Lent → ℕ → ℕ → ℕ → ℕ → (lSubs lStarts lSlots uSubs uStarts uSlots : List ℕ) → Type 0
-ListsAs (Both l u) p n k roomL roomU lSubs lStarts lSlots uSubs uStarts uSlots =
-    (l .0 ≡ used (planOf p) lower k) × (u .0 ≡ used (planOf p) upper k) × BothFilled p n k roomL roomU lSubs lStarts lSlots uSubs uStarts uSlots
-ListsAs LowerShort p n k roomL roomU lSubs lStarts lSlots uSubs uStarts uSlots = roomL < used (planOf p) lower k
-ListsAs UpperShort p n k roomL roomU lSubs lStarts lSlots uSubs uStarts uSlots = (used (planOf p) lower k ≤ roomL) × (roomU < used (planOf p) upper k)
 
 -- after a turn at step k: all stores are filled with it, or the first side that does not fit
 abbrev pub TurnedAs : Turned → Lent → ℕ → ℕ → ℕ → ℕ → (setHeads setLinks rowHeads rowLinks lSubs lStarts lSlots uSubs uStarts uSlots : List ℕ) → Type 0

@@ -1,6 +1,6 @@
 // How a step's kept list is put into the stores of its side: shared subscripts (report, section 3.1) and the starts of its value slots.
 ghost use mathlib.Core.Path.{_≡_};
-ghost use Prim.Native.Nat.{_-_};
+ghost use Prim.Native.Nat.{_-_, _<_};
 ghost use lib.ListN.{length};
 ghost use Rattle.foundation.specs.Pattern.{Lent, lent};
 ghost use Rattle.foundation.specs.Plan.{Side};
@@ -10,10 +10,14 @@ ghost use Rattle.inner_gathering.specs.Contains.{used};
 ghost use Rattle.inner_gathering.specs.Steps.{StepOf, ChainsOf};
 ghost use Rattle.inner_step.specs.Placing.{Placing, PlacedAs};
 ghost use Rattle.inner_step.specs.Filled.{Filled};
+use crate::appending::Appended;
+use crate::appending::append_side;
 use answers::SubscriptPlace;
 use inner_gathering::from_rows;
 use inner_gathering::from_steps;
+use inner_gathering::sole_step;
 use inner_sharing::Placed;
+use inner_sharing::follow_sole;
 use inner_sharing::shared_end;
 use inner_sharing::write_list;
 
@@ -34,8 +38,8 @@ pub fn place(
     write_list(k, shared, new, subs, starts, slots, end)
 }
 
-// One side of step k: its kept list is gathered and put into the side's stores.
-pub fn plan_side(
+// The kept list of step k is gathered from the rows and steps that bring it, and put into the side's stores.
+fn gather_side(
     upper: bool,
     n: usize,
     k: usize,
@@ -77,4 +81,70 @@ pub fn plan_side(
         return place(n, k, &spare[0..count], subs, list_starts, slots, end);
     }
     place(n, k, &list[0..count], subs, list_starts, slots, end)
+}
+
+// One side of step k: the list of a sole step is shared, what a row adds behind the last list is appended, any other list is gathered.
+pub fn plan_side(
+    upper: bool,
+    n: usize,
+    k: usize,
+    row: usize,
+    row_links: &[usize],
+    set: usize,
+    set_links: &[usize],
+    starts: &[usize],
+    columns: &[usize],
+    subs: &mut [usize],
+    list_starts: &mut [usize],
+    slots: &mut [usize],
+    list: &mut [usize],
+    spare: &mut [usize],
+    end: SubscriptPlace,
+) -> Placed
+    requires { ⌜ StepOf (lent n (now starts) (now columns)) n k × ChainsOf (lent n (now starts) (now columns)) k row (now «row_links») set (now «set_links») × (set < length (now «set_links»)) ⌝ }
+    requires { ⌜ Filled (planOf (lent n (now starts) (now columns))) (sideOf upper) n (k - 1) (length (now subs)) (now subs) (now «list_starts») (now slots) ⌝ }
+    requires { ⌜ end .0 ≡ used (planOf (lent n (now starts) (now columns))) (sideOf upper) (k - 1) ⌝ }
+    requires { ⌜ (length (now list) ≡ n) × (length (now spare) ≡ n) ⌝ }
+    ensures { λ r. ⌜ PlacedAs r (lent n (now (starts .entry)) (now (columns .entry))) (sideOf upper) n k (length (now (subs .entry))) (now (subs .exit)) (now («list_starts» .exit)) (now (slots .exit)) ⌝ }
+{
+    let l = sole_step(row, set, set_links);
+    if l != 0 {
+        follow_sole(k, l, list_starts, slots, end);
+        return Placed::End(end);
+    }
+    let short = append_side(
+        upper,
+        n,
+        k,
+        row,
+        row_links,
+        set,
+        set_links,
+        starts,
+        columns,
+        subs,
+        list_starts,
+        slots,
+        end,
+    );
+    match short {
+        Appended::Written(placed) => placed,
+        Appended::Longer => gather_side(
+            upper,
+            n,
+            k,
+            row,
+            row_links,
+            set,
+            set_links,
+            starts,
+            columns,
+            subs,
+            list_starts,
+            slots,
+            list,
+            spare,
+            end,
+        ),
+    }
 }

@@ -1,178 +1,16 @@
 // One step of planning, in the report's order (2.1 to 2.5).
 ghost use mathlib.Core.Path.{_≡_};
-ghost use Prim.Native.Nat.{_-_, _<_};
+ghost use Prim.Native.Nat.{_-_};
 ghost use lib.ListN.{length};
 ghost use Rattle.foundation.specs.Pattern.{lent};
-ghost use Rattle.foundation.specs.Plan.{lower, upper};
-ghost use Rattle.inner_gathering.specs.Ready.{planOf};
-ghost use Rattle.inner_gathering.specs.Contains.{used};
-ghost use Rattle.inner_gathering.specs.Steps.{StepOf, ChainsOf, ChainsAt, EndsAre};
+ghost use Rattle.inner_gathering.specs.Steps.{StepOf, ChainsAt, EndsAre};
 ghost use Rattle.inner_step.specs.Filled.{BothFilled};
-ghost use Rattle.inner_step.specs.Stepping.{ListsAs, TurnedAs};
-use crate::appending::Short;
-use crate::appending::append_lists;
+ghost use Rattle.inner_step.specs.Stepping.{TurnedAs};
 use crate::place::plan_side;
 use answers::SubscriptPlace;
 use inner_gathering::hand_on;
-use inner_gathering::sole_step;
 use inner_gathering::step_total;
 use inner_sharing::Placed;
-use inner_sharing::follow_sole;
-
-// What the lists of a step come to: where both sides' stores then end, or the first side that is too short.
-pub enum Lists {
-    Both(SubscriptPlace, SubscriptPlace),
-    LowerShort,
-    UpperShort,
-}
-
-// Report, 2.1 to 2.4: the lists of step k on both sides, L first.
-pub fn plan_lists(
-    n: usize,
-    k: usize,
-    row: usize,
-    row_links: &[usize],
-    set: usize,
-    set_links: &[usize],
-    starts: &[usize],
-    columns: &[usize],
-    l_subs: &mut [usize],
-    l_starts: &mut [usize],
-    l_slots: &mut [usize],
-    u_subs: &mut [usize],
-    u_starts: &mut [usize],
-    u_slots: &mut [usize],
-    list: &mut [usize],
-    spare: &mut [usize],
-    l_end: SubscriptPlace,
-    u_end: SubscriptPlace,
-) -> Lists
-    requires { ⌜ StepOf (lent n (now starts) (now columns)) n k × ChainsOf (lent n (now starts) (now columns)) k row (now «row_links») set (now «set_links») × (set < length (now «set_links»)) ⌝ }
-    requires { ⌜ BothFilled (lent n (now starts) (now columns)) n (k - 1) (length (now «l_subs»)) (length (now «u_subs»)) (now «l_subs») (now «l_starts») (now «l_slots») (now «u_subs») (now «u_starts») (now «u_slots») ⌝ }
-    requires { ⌜ («l_end» .0 ≡ used (planOf (lent n (now starts) (now columns))) lower (k - 1)) × («u_end» .0 ≡ used (planOf (lent n (now starts) (now columns))) upper (k - 1)) ⌝ }
-    requires { ⌜ (length (now list) ≡ n) × (length (now spare) ≡ n) ⌝ }
-    ensures { λ r. ⌜ ListsAs r (lent n (now (starts .entry)) (now (columns .entry))) n k (length (now («l_subs» .entry))) (length (now («u_subs» .entry))) (now («l_subs» .exit)) (now («l_starts» .exit)) (now («l_slots» .exit)) (now («u_subs» .exit)) (now («u_starts» .exit)) (now («u_slots» .exit)) ⌝ }
-{
-    let l = sole_step(row, set, set_links);
-    if l != 0 {
-        follow_sole(k, l, l_starts, l_slots, l_end);
-        follow_sole(k, l, u_starts, u_slots, u_end);
-        return Lists::Both(l_end, u_end);
-    }
-    let lowers = plan_side(
-        false,
-        n,
-        k,
-        row,
-        row_links,
-        set,
-        set_links,
-        starts,
-        columns,
-        l_subs,
-        l_starts,
-        l_slots,
-        list,
-        spare,
-        l_end,
-    );
-    let Placed::End(l_next) = lowers else {
-        return Lists::LowerShort;
-    };
-    let uppers = plan_side(
-        true,
-        n,
-        k,
-        row,
-        row_links,
-        set,
-        set_links,
-        starts,
-        columns,
-        u_subs,
-        u_starts,
-        u_slots,
-        list,
-        spare,
-        u_end,
-    );
-    let Placed::End(u_next) = uppers else {
-        return Lists::UpperShort;
-    };
-    Lists::Both(l_next, u_next)
-}
-
-// The lists of step k on both sides, the short way where it can be gone.
-fn step_lists(
-    n: usize,
-    k: usize,
-    row: usize,
-    row_links: &[usize],
-    set: usize,
-    set_links: &[usize],
-    starts: &[usize],
-    columns: &[usize],
-    l_subs: &mut [usize],
-    l_starts: &mut [usize],
-    l_slots: &mut [usize],
-    u_subs: &mut [usize],
-    u_starts: &mut [usize],
-    u_slots: &mut [usize],
-    list: &mut [usize],
-    spare: &mut [usize],
-    l_end: SubscriptPlace,
-    u_end: SubscriptPlace,
-) -> Lists
-    requires { ⌜ StepOf (lent n (now starts) (now columns)) n k × ChainsOf (lent n (now starts) (now columns)) k row (now «row_links») set (now «set_links») × (set < length (now «set_links»)) ⌝ }
-    requires { ⌜ BothFilled (lent n (now starts) (now columns)) n (k - 1) (length (now «l_subs»)) (length (now «u_subs»)) (now «l_subs») (now «l_starts») (now «l_slots») (now «u_subs») (now «u_starts») (now «u_slots») ⌝ }
-    requires { ⌜ («l_end» .0 ≡ used (planOf (lent n (now starts) (now columns))) lower (k - 1)) × («u_end» .0 ≡ used (planOf (lent n (now starts) (now columns))) upper (k - 1)) ⌝ }
-    requires { ⌜ (length (now list) ≡ n) × (length (now spare) ≡ n) ⌝ }
-    ensures { λ r. ⌜ ListsAs r (lent n (now (starts .entry)) (now (columns .entry))) n k (length (now («l_subs» .entry))) (length (now («u_subs» .entry))) (now («l_subs» .exit)) (now («l_starts» .exit)) (now («l_slots» .exit)) (now («u_subs» .exit)) (now («u_starts» .exit)) (now («u_slots» .exit)) ⌝ }
-{
-    let short = append_lists(
-        n,
-        k,
-        row,
-        row_links,
-        set,
-        set_links,
-        starts,
-        columns,
-        l_subs,
-        l_starts,
-        l_slots,
-        u_subs,
-        u_starts,
-        u_slots,
-        l_end,
-        u_end,
-    );
-    match short {
-        Short::Both(l_next, u_next) => Lists::Both(l_next, u_next),
-        Short::LowerFull => Lists::LowerShort,
-        Short::UpperFull => Lists::UpperShort,
-        Short::Longer => plan_lists(
-            n,
-            k,
-            row,
-            row_links,
-            set,
-            set_links,
-            starts,
-            columns,
-            l_subs,
-            l_starts,
-            l_slots,
-            u_subs,
-            u_starts,
-            u_slots,
-            list,
-            spare,
-            l_end,
-            u_end,
-        ),
-    }
-}
 
 // How a step ends: on to the next with where both stores end and the reads so far, or with the first side that is full.
 pub enum Turned {
@@ -223,7 +61,8 @@ pub fn plan_step(
         l_slots,
         u_slots,
     );
-    let lists = step_lists(
+    let lowers = plan_side(
+        false,
         n,
         k,
         row,
@@ -235,31 +74,44 @@ pub fn plan_step(
         l_subs,
         l_starts,
         l_slots,
+        list,
+        spare,
+        l_end,
+    );
+    let Placed::End(l_next) = lowers else {
+        return Turned::LowerFull;
+    };
+    let uppers = plan_side(
+        true,
+        n,
+        k,
+        row,
+        row_links,
+        set,
+        set_links,
+        starts,
+        columns,
         u_subs,
         u_starts,
         u_slots,
         list,
         spare,
-        l_end,
         u_end,
     );
-    match lists {
-        Lists::LowerShort => Turned::LowerFull,
-        Lists::UpperShort => Turned::UpperFull,
-        Lists::Both(l_next, u_next) => {
-            hand_on(
-                n,
-                k,
-                starts,
-                columns,
-                l_slots,
-                u_subs,
-                u_starts,
-                u_slots,
-                set_heads,
-                set_links,
-            );
-            Turned::On(l_next, u_next, reads + more)
-        }
-    }
+    let Placed::End(u_next) = uppers else {
+        return Turned::UpperFull;
+    };
+    hand_on(
+        n,
+        k,
+        starts,
+        columns,
+        l_slots,
+        u_subs,
+        u_starts,
+        u_slots,
+        set_heads,
+        set_links,
+    );
+    Turned::On(l_next, u_next, reads + more)
 }
