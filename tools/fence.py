@@ -16,7 +16,8 @@ import sys
 
 # The open crate of each part, and its inner crates.
 PARTS = {
-    "planning": ["inner_stores", "inner_gathering", "inner_sharing", "inner_appending", "inner_step", "inner_planning", "inner_verifying"],
+    "planning": ["inner_searching", "inner_stores", "inner_patterns", "inner_gathering", "inner_sharing", "inner_appending", "inner_step", "inner_comparing",
+                 "inner_planning", "inner_verifying"],
     "elimination": ["inner_slots", "inner_choosing", "inner_exchange", "inner_stretches", "inner_sides", "inner_column", "inner_steps", "inner_loading", "inner_solving",
                     "inner_asking", "inner_judging", "inner_clearing", "inner_running", "inner_answering"],
     "job": ["inner_printing", "inner_operands", "inner_commands", "inner_standing", "inner_reading", "inner_lending"],

@@ -1,7 +1,6 @@
 -- One row joins the list of the step before: what the list of the step then is, and how much of it the store has already.
 use mathlib.Core.Bool.{Bool, true, false, false≢true, _||_}
 use mathlib.Core.List.{List, [], _∷_, _++_}
-use mathlib.Core.Logic.{⊎-elim}
 use mathlib.Core.Path.{_≡_, refl, sym, ap, _∙_}
 use Prim.Native.Nat.{ℕ, zero, suc, _+_, _-_, _≤_, _<_}
 use native.Mathlib.Nat.{sub-zero}
@@ -13,14 +12,13 @@ use borrow.Author.Tests.{eqb-true, eq-eqb, ne-eqb}
 use Rattle.lists.specs.Functions.{empty}
 use Rattle.lists.specs.Sets.{member, Ascending, union, joinAll, begins, overlap}
 use Rattle.lists.proofs.Members.{by-test, member-head, member-union, and-both}
-use Rattle.lists.proofs.Order.{ascending-weaken, ascending-union, same-members}
+use Rattle.lists.proofs.Order.{ascending-union, same-members}
 use Rattle.foundation.specs.Pattern.{Lent, lent, patternOf, maxEntries}
 use Rattle.foundation.specs.Plan.{Side, lower, upper, brings}
 use Rattle.foundation.specs.Subscripts.{kept, shared, sharedEnd, soleStep}
-use Rattle.inner_stores.specs.Chains.{Linked, span}
 use Rattle.inner_stores.proofs.Chaining.{linked-end, linked-next}
-use Rattle.inner_gathering.specs.Ready.{Ready, planOf, sideOf}
-use Rattle.inner_gathering.specs.Gathering.{without, omit, Within}
+use Rattle.inner_gathering.specs.Ready.{planOf, sideOf}
+use Rattle.inner_gathering.specs.Gathering.{without, Within}
 use Rattle.inner_gathering.specs.Contains.{used, Contains}
 use Rattle.inner_gathering.specs.Steps.{StepOf, ChainsOf}
 use Rattle.inner_gathering.proofs.Contains.{Opened, contains-opens, kept-within}

@@ -1,4 +1,3 @@
 -- What the contracts cite.
-pub mod Behind
 pub mod Rest
 pub mod Joining

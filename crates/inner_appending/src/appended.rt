@@ -7,11 +7,11 @@ ghost use Rattle.foundation.specs.Pattern.{lent};
 ghost use Rattle.inner_gathering.specs.Ready.{planOf, sideOf};
 ghost use Rattle.inner_gathering.specs.Contains.{used, Contains};
 ghost use Rattle.inner_appending.specs.Joining.{ChainsJoin, JoinsLast, JoinedAs, AddedAs};
-use crate::searching::Behind;
-use crate::searching::after_first;
-use crate::searching::search_behind;
 use answers::SlotPlace;
 use answers::SubscriptPlace;
+use inner_gathering::after_first;
+use inner_searching::Behind;
+use inner_searching::search_behind;
 use inner_stores::list_at;
 use inner_stores::slots_between;
 

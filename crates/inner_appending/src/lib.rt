@@ -1,7 +1,6 @@
 // The short way to the list of a step: one row joins the list of the step before, which ends its store, and only adds behind it. Then only
 // what stands behind is looked for, and written or compared.
 mod appended;
-mod searching;
 mod writing;
 
 pub use appended::Added;

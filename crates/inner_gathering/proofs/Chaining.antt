@@ -32,7 +32,7 @@ use Rattle.foundation.proofs.ReadsBound.{first-ascends, sizes-within}
 use Rattle.inner_stores.specs.Chains.{Linked, Chained, span, bothSpans, RowsWalk, StepsWalk}
 use Rattle.inner_stores.proofs.Chaining.{chained-none, chained-cong, chained-push}
 use Rattle.inner_gathering.specs.Ready.{Ready, planOf}
-use Rattle.inner_gathering.proofs.Judging.{Fitted, fitted, row-order, row-within}
+use Rattle.inner_patterns.proofs.Judging.{Fitted, fitted, row-order, row-within}
 
 -- ---- the rows of a pattern that was judged
 

@@ -23,7 +23,7 @@ use Rattle.inner_stores.specs.Chains.{Linked, Chained}
 use Rattle.inner_stores.proofs.Chaining.{linked-next, chained-none}
 use Rattle.inner_gathering.specs.Ready.{Ready, planOf}
 use Rattle.inner_gathering.specs.Steps.{StepOf, ChainsOf, moreReads, readsSoFar, ChainsAt, EndsAre}
-use Rattle.inner_gathering.proofs.Judging.{Fitted, fitted}
+use Rattle.inner_patterns.proofs.Judging.{Fitted, fitted}
 use Rattle.inner_gathering.proofs.Chaining.{few-rows}
 use Rattle.inner_gathering.proofs.Contains.{used-none}
 

@@ -1,7 +1,7 @@
 -- What the rows first met at a step and the steps handed on to it bring, turn by turn.
 use mathlib.Core.Bool.{Bool, true, false, cond, not}
 use mathlib.Core.List.{List, [], _∷_}
-use mathlib.Core.Logic.{_⊎_, ⊎-elim}
+use mathlib.Core.Logic.{⊎-elim}
 use mathlib.Core.Path.{_≡_, sym, ap, _∙_}
 use Prim.Native.Nat.{ℕ, zero, suc, _-_, _≤_, _<_}
 use native.Mathlib.Nat.{le-refl}
@@ -27,7 +27,7 @@ use Rattle.inner_stores.specs.Chains.{Linked, span}
 use Rattle.inner_gathering.specs.Ready.{Ready, planOf, sideOf}
 use Rattle.inner_gathering.specs.Gathering.{without, omit, Within, GrownIn}
 use Rattle.inner_gathering.specs.Contains.{Contains}
-use Rattle.inner_gathering.proofs.Judging.{Fitted, fitted, row-order, row-within, slice-part}
+use Rattle.inner_patterns.proofs.Judging.{Fitted, fitted, row-order, row-within, slice-part}
 use Rattle.inner_gathering.proofs.Contains.{facts, kept-within, Opened, contains-opens}
 use Rattle.inner_gathering.proofs.Joining.{omit-without, without-within, within-to, grown-none, Gathers, gathers-order, joinAll-within, omit-joinAll, within-none}
 

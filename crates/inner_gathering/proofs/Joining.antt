@@ -1,14 +1,14 @@
 -- How a list grows by unions: what a list without its own step is, what the two stores have, and how far a chain has been joined.
-use mathlib.Core.Bool.{Bool, true, false, cond, not}
-use mathlib.Core.List.{List, [], _∷_}
+use mathlib.Core.Bool.{Bool, true, false, not}
+use mathlib.Core.List.{List, [], _∷_, _++_}
 use mathlib.Core.Logic.{_⊎_, inl, inr, ⊎-elim}
 use mathlib.Core.Path.{_≡_, refl, sym, ap, _∙_}
-use Prim.Native.Nat.{ℕ, suc, _-_, _≤_, _<_}
+use Prim.Native.Nat.{ℕ, suc, _+_, _-_, _≤_, _<_}
 use native.Mathlib.Nat.{le-refl}
 use native.Mathlib.Omega.{arith}
 use lib.Dec.{eqb}
-use lib.ListN.{length, take, drop, getD, length-drop}
-use lib.Seq.{take-all}
+use lib.ListN.{length, take, drop, getD, length-drop, length-append}
+use lib.Seq.{take-all, take-at}
 use borrow.Author.Tests.{eqb-true, eqb-false, eq-eqb, ne-eqb}
 use Rattle.lists.specs.Functions.{keep}
 use Rattle.lists.specs.Sets.{member, Ascending, union, joinAll, from}
@@ -94,61 +94,93 @@ within-length k n xs w =
 
 -- ---- the two stores
 
--- what is merged: the list grown, and the part of another
-abbrev pub merged : ℕ → ℕ → List ℕ → List ℕ → List ℕ
-merged count from have more = union (take (count - 0) have) (take (length more - from) (drop from more))
+-- the other store named first
+pub turned :
+    (flipped : Bool) {n count : ℕ} {list spare xs : List ℕ} → GrownIn n flipped count list spare xs → GrownIn n (not flipped) count spare list xs
+turned false h = record { list-size = h .spare-size; spare-size = h .list-size; size = h .size; fits = h .fits; is = h .is }
+turned true h = record { list-size = h .spare-size; spare-size = h .list-size; size = h .size; fits = h .fits; is = h .is }
 
-module _ {n k count from : ℕ} {flipped : Bool} {list spare xs more : List ℕ} (h : GrownIn n flipped count list spare xs)
-    (w : Within (suc k) n xs) (m : Within k n more) (cut : Cut k from more) where
-  merged-is : (have : List ℕ) → cond flipped spare list ≡ have → merged count from have more ≡ union xs (without k more)
-  merged-is have e =
-      let c : count - 0 ≡ count = omega arith in
-      rw (c, ← e, h .is, cut .is)
+-- the store where a list has grown is known
+pub grown-where :
+    {flipped known : Bool} {n count : ℕ} {list spare xs : List ℕ} → flipped ≡ known → GrownIn n flipped count list spare xs
+    → GrownIn n known count list spare xs
+grown-where e h = rw e at h
 
-  fits : (have : List ℕ) → cond flipped spare list ≡ have → length (merged count from have more) ≤ n
-  fits have e = rw (merged-is have e) (within-length k n (union xs (without k more)) (joined-within k n xs more w m))
+-- the places up to `count`, as the code lends them
+abbrev pub front : ℕ → List ℕ → List ℕ
+front count have = take (count - 0) have
+
+-- and those from `at` on
+abbrev pub added : ℕ → List ℕ → List ℕ
+added at comes = take (length comes - at) (drop at comes)
+
+module _ {n k count : ℕ} {have spare xs more comes : List ℕ} (h : GrownIn n false count have spare xs) (w : Within (suc k) n xs)
+    (m : Within k n more) (cut : comes ≡ without k more) where
+  front-is : front count have ≡ xs
+  front-is = let c : count - 0 ≡ count = omega arith in rw c (h .is)
+
+  union-is : union (front count have) comes ≡ union xs (without k more)
+  union-is = rw (front-is, cut)
+
+  union-fits : length (union (front count have) comes) ≤ n
+  union-fits = rw union-is (within-length k n (union xs (without k more)) (joined-within k n xs more w m))
 
   -- a merge has room in the other store
-  pub room-list : flipped ≡ true → length (merged count from spare more) ≤ length list
-  room-list e = let f = fits spare (rw e) in let l = h .list-size in omega arith
-
-  pub room-spare : flipped ≡ false → length (merged count from list more) ≤ length spare
-  room-spare e = let f = fits list (rw e) in let l = h .spare-size in omega arith
+  pub merge-room : length (union (front count have) comes) ≤ length spare
+  merge-room = let l = h .spare-size in omega (arith, union-fits)
 
   -- and then the other store has the union
-  pub into-list :
-      flipped ≡ true → {list′ : List ℕ} {r : ℕ} → length list′ ≡ length list
-      → (r ≡ length (merged count from spare more)) × (take r list′ ≡ merged count from spare more)
-      → (ys : List ℕ) → GrownIn n flipped count list spare ys → GrownIn n false r list′ spare (union ys (without k more))
-  into-list e {list′} {r} l (q, t) ys g =
+  pub merge-grown :
+      {spare′ : List ℕ} {r : ℕ} → length spare′ ≡ length spare
+      → (r ≡ length (union (front count have) comes)) × (take r spare′ ≡ union (front count have) comes)
+      → (ys : List ℕ) → GrownIn n false count have spare ys → GrownIn n true r have spare′ (union ys (without k more))
+  merge-grown l (q, t) ys g =
       let same : ys ≡ xs = sym (g .is) ∙ h .is in
-      let f = fits spare (rw e) in
-      let u : merged count from spare more ≡ union xs (without k more) = merged-is spare (rw e) in
-      rw same
-      (record {
-        list-size = l ∙ h .list-size;
-        spare-size = h .spare-size;
-        size = q ∙ ap length u;
-        fits = omega arith;
-        is = t ∙ u;
-      })
-
-  pub into-spare :
-      flipped ≡ false → {spare′ : List ℕ} {r : ℕ} → length spare′ ≡ length spare
-      → (r ≡ length (merged count from list more)) × (take r spare′ ≡ merged count from list more)
-      → (ys : List ℕ) → GrownIn n flipped count list spare ys → GrownIn n true r list spare′ (union ys (without k more))
-  into-spare e {spare′} {r} l (q, t) ys g =
-      let same : ys ≡ xs = sym (g .is) ∙ h .is in
-      let f = fits list (rw e) in
-      let u : merged count from list more ≡ union xs (without k more) = merged-is list (rw e) in
+      let f = union-fits in
       rw same
       (record {
         list-size = h .list-size;
         spare-size = l ∙ h .spare-size;
-        size = q ∙ ap length u;
+        size = q ∙ ap length union-is;
         fits = omega arith;
-        is = t ∙ u;
+        is = t ∙ union-is;
       })
+
+  -- where the list only adds behind the end, from `at` on
+  module _ (at : ℕ)
+      (behind : (at ≤ length comes) × ((low : ℕ) → Ascending low (front count have) → union (front count have) comes ≡ front count have ++ drop at comes)) where
+    rest-is : union xs (without k more) ≡ xs ++ drop at comes
+    rest-is = sym union-is ∙ behind .1 (suc k) (rw front-is (w .ascending)) ∙ rw front-is
+
+    -- what is added has room in the same store
+    pub behind-room : count + length (added at comes) ≤ length have
+    behind-room =
+        let l = h .list-size in
+        let c = h .size in
+        let f = union-fits in
+        let e = ap length (union-is ∙ rest-is) ∙ length-append xs (drop at comes) in
+        rw (part-is comes at) (omega arith)
+
+    -- and then that store has the union
+    pub behind-grown :
+        {have′ : List ℕ} {r : ℕ} → length have′ ≡ length have
+        → (r ≡ count + length (added at comes)) × (have′ ≡ take count have ++ added at comes ++ drop (count + length (added at comes)) have)
+        → (ys : List ℕ) → GrownIn n false count have spare ys → GrownIn n false r have′ spare (union ys (without k more))
+    behind-grown {have′} {r} l (q, t) ys g =
+        let same : ys ≡ xs = sym (g .is) ∙ h .is in
+        let room = behind-room in
+        let size = h .size in
+        let list = h .list-size in
+        let whole : union xs (without k more) ≡ xs ++ added at comes = rest-is ∙ rw (part-is comes at) in
+        let long : r ≡ length (xs ++ added at comes) = q ∙ rw (size, length-append) in
+        rw (same, whole)
+        (record {
+          list-size = l ∙ h .list-size;
+          spare-size = h .spare-size;
+          size = long;
+          fits = omega arith;
+          is = rw (t, h .is) (take-at (xs ++ added at comes) _ r (sym long));
+        })
 
 -- no list is grown yet
 pub grown-none : (n : ℕ) (list spare : List ℕ) → length list ≡ n → length spare ≡ n → GrownIn n false 0 list spare []

@@ -1,7 +1,5 @@
 -- Laws that the proofs of the functions share.
-pub mod Judging
 pub mod Passing
-pub mod Sizing
 pub mod Chaining
 pub mod Contains
 pub mod Joining

@@ -1,5 +1,6 @@
 // The kept list of a step, gathered from the rows first met and from the steps that were handed on (report, 2.1 to 2.4). It grows by
-// unions, from one of two stores into the other.
+// unions, in place or from one of two stores into the other.
+ghost use mathlib.Core.Bool.{false};
 ghost use mathlib.Core.List.{List};
 ghost use mathlib.Core.Path.{_≡_};
 ghost use Prim.Native.Nat.{ℕ, suc, _-_, _≤_};
@@ -14,6 +15,9 @@ ghost use Rattle.inner_gathering.specs.Gathering.{without, omit, Within,
 ghost use Rattle.inner_gathering.specs.Contains.{Contains};
 use answers::SlotPlace;
 use answers::SubscriptPlace;
+use inner_searching::Behind;
+use inner_searching::search_behind;
+use inner_stores::append;
 use inner_stores::list_at;
 use inner_stores::merge;
 use inner_stores::slots_between;
@@ -24,8 +28,53 @@ pub struct Growing {
     pub count: usize,
 }
 
-// A list joins the growing one, without its own step k.
+// A list without its own step k, which can only stand first.
+pub fn after_first(k: usize, list: &[usize]) -> &[usize]
+    ensures { λ r. ⌜ now r ≡ without k (now (list .entry)) ⌝ }
+{
+    let mut from = 0;
+    if 0 < list.len() {
+        if list[0] == k {
+            from = 1;
+        }
+    }
+    &list[from..]
+}
+
+// A list joins the one that has grown in `have`, without its own step k. A search tells whether it only adds behind the end: then it is
+// joined in place, and else by a merge into the other store.
+fn join_here(
+    search: bool,
+    n: usize,
+    k: usize,
+    more: &[usize],
+    count: usize,
+    have: &mut [usize],
+    spare: &mut [usize],
+) -> Growing
+    requires { ⌜ ((xs : List ℕ) × GrownIn n false count (now have) (now spare) xs × Within (suc k) n xs × Within k n (now more)) ⌝ }
+    ensures { λ r. ⌜ ((xs : List ℕ) → GrownIn n false count (now (have .entry)) (now (spare .entry)) xs → GrownIn n (r .flipped) (r .count) (now (have .exit)) (now (spare .exit)) (union xs (without k (now (more .entry))))) ⌝ }
+{
+    let comes = after_first(k, more);
+    if search {
+        if let Behind::From(at) = search_behind(&have[0..count], comes) {
+            let next = append(&comes[at..], have, count);
+            return Growing {
+                flipped: false,
+                count: next,
+            };
+        }
+    }
+    let next = merge(&have[0..count], comes, spare);
+    Growing {
+        flipped: true,
+        count: next,
+    }
+}
+
+// A list joins the growing one, without its own step k. It is searched where it is likely to add nothing, or only behind the end.
 pub fn join(
+    search: bool,
     n: usize,
     k: usize,
     more: &[usize],
@@ -36,29 +85,18 @@ pub fn join(
     requires { ⌜ ((xs : List ℕ) × GrownIn n (grown .flipped) (grown .count) (now list) (now spare) xs × Within (suc k) n xs × Within k n (now more)) ⌝ }
     ensures { λ r. ⌜ ((xs : List ℕ) → GrownIn n (grown .flipped) (grown .count) (now (list .entry)) (now (spare .entry)) xs → GrownIn n (r .flipped) (r .count) (now (list .exit)) (now (spare .exit)) (union xs (without k (now (more .entry))))) ⌝ }
 {
-    let flipped = grown.flipped;
     let count = grown.count;
-    let mut from = 0;
-    if 0 < more.len() {
-        if more[0] == k {
-            from = 1;
-        }
-    }
-    if flipped {
-        let next = merge(&spare[0..count], &more[from..], list);
+    if grown.flipped {
+        let turned = join_here(search, n, k, more, count, spare, list);
         return Growing {
-            flipped: false,
-            count: next,
+            flipped: !turned.flipped,
+            count: turned.count,
         };
     }
-    let next = merge(&list[0..count], &more[from..], spare);
-    Growing {
-        flipped: true,
-        count: next,
-    }
+    join_here(search, n, k, more, count, list, spare)
 }
 
-// Report, 2.2: what the rows of a chain bring, each its own number to L and its columns to U.
+// Report, 2.2: what the rows of a chain bring, each its own number to L and its columns to U. Most of them add nothing, or only behind the end.
 pub fn from_rows(
     upper: bool,
     n: usize,
@@ -84,12 +122,12 @@ pub fn from_rows(
         if upper {
             let from = starts[i - 1];
             let to = starts[i];
-            grown = join(n, k, &columns[from..to], grown, list, spare);
+            grown = join(true, n, k, &columns[from..to], grown, list, spare);
             i = links[i];
             continue;
         }
         let row = [i];
-        grown = join(n, k, &row, grown, list, spare);
+        grown = join(true, n, k, &row, grown, list, spare);
         i = links[i];
     }
     grown
@@ -117,7 +155,7 @@ pub fn from_steps(
     while l != 0 {
         let count = slots_between(SlotPlace(slots[l - 1]), SlotPlace(slots[l]));
         let start = SubscriptPlace(starts[l - 1]);
-        grown = join(n, k, list_at(subs, start, count), grown, list, spare);
+        grown = join(false, n, k, list_at(subs, start, count), grown, list, spare);
         l = links[l];
     }
     grown

@@ -28,10 +28,10 @@ use Rattle.inner_stores.specs.Clearing.{Zeros, SideZeros}
 use Rattle.inner_gathering.specs.Ready.{Ready, planOf}
 use Rattle.inner_gathering.specs.Contains.{used}
 use Rattle.inner_gathering.specs.Steps.{readsSoFar, ChainsAt, EndsAre}
-use Rattle.inner_gathering.specs.Sizes.{lengthsFit}
+use Rattle.inner_patterns.specs.Sizes.{lengthsFit}
 use Rattle.inner_gathering.proofs.Coursing.{reads-all, chains-begin}
 use Rattle.inner_gathering.proofs.Passing.{ready, fault-ready}
-use Rattle.inner_gathering.proofs.Sizing.{Lengths, fit-lengths, unfit, sizes-fit}
+use Rattle.inner_patterns.proofs.Sizing.{Lengths, fit-lengths, unfit, sizes-fit}
 use Rattle.inner_step.specs.Filled.{Filled, BothFilled}
 use Rattle.inner_step.proofs.Filled.{filled-none, filled-contains}
 use Rattle.inner_planning.specs.Course.{FitTo, EndedAs}

@@ -23,11 +23,11 @@ use Rattle.inner_stores.specs.Chains.{Chained}
 use Rattle.inner_gathering.specs.Ready.{Ready, planOf}
 use Rattle.inner_gathering.specs.Contains.{used}
 use Rattle.inner_gathering.specs.Steps.{ChainsAt, EndsAre}
-use Rattle.inner_gathering.specs.Sizes.{lengthsFit}
+use Rattle.inner_patterns.specs.Sizes.{lengthsFit}
 use Rattle.inner_gathering.proofs.Coursing.{reads-all, chains-begin}
-use Rattle.inner_gathering.proofs.Sizing.{fit-lengths, sizes-fit}
+use Rattle.inner_patterns.proofs.Sizing.{fit-lengths, sizes-fit}
 use Rattle.inner_gathering.proofs.Passing.{fault-ready}
-use Rattle.inner_verifying.specs.Verifying.{BothContain}
+use Rattle.inner_verifying.specs.Course.{BothContain}
 use Rattle.inner_verifying.proofs.Coursing.{contains-same, same-contains, LentSizes}
 
 -- ---- the answer

@@ -22,7 +22,7 @@ use Rattle.inner_gathering.specs.Steps.{StepOf, ChainsOf, BothSlots, moreReads,
 use Rattle.inner_gathering.proofs.Contains.{used-none, both-slots}
 use Rattle.inner_gathering.proofs.Coursing.{chains-at, set-inside, reads-more, ends-none}
 use Rattle.inner_sharing.proofs.Comparing.{same-equal, equal-same}
-use Rattle.inner_verifying.specs.Verifying.{BothContain}
+use Rattle.inner_verifying.specs.Course.{BothContain}
 
 -- ---- what a step hands to the functions that it calls, and what it leaves
 
@@ -35,17 +35,15 @@ pub verify-total-asks :
 verify-total-asks (step, chains) both =
     ((step, chains-at _ _ _ _ _ _ _ step chains, chains .set-chains .links-size), both-slots (both .lowers) (both .uppers))
 
--- its lists are looked for
-pub verify-lists-ask :
-    {p : Lent} {n k l u reads listSize spareSize : ℕ} {rowHeads rowLinks setHeads setLinks lSubs lStarts lSlots uSubs uStarts uSlots : List ℕ}
+-- the list of one side is looked for
+pub verify-side-asks :
+    {p : Lent} {side : Side} {n k end listSize spareSize : ℕ} {rowHeads rowLinks setHeads setLinks subs starts slots : List ℕ}
     → StepOf p n k × ChainsAt p n (k - 1) rowHeads rowLinks setHeads setLinks
-    → BothContain p n (k - 1) lSubs lStarts lSlots uSubs uStarts uSlots
-    → EndsAre p (k - 1) l u reads → (listSize ≡ n) × (spareSize ≡ n)
+    → Contains (planOf p) side n (k - 1) subs starts slots → end ≡ used (planOf p) side (k - 1) → (listSize ≡ n) × (spareSize ≡ n)
     → (StepOf p n k × ChainsOf p k (getD rowHeads k 0) rowLinks (getD setHeads k 0) setLinks × (getD setHeads k 0 < length setLinks))
-    × (BothContain p n (k - 1) lSubs lStarts lSlots uSubs uStarts uSlots
-    × (((l ≡ used (planOf p) lower (k - 1)) × (u ≡ used (planOf p) upper (k - 1))) × ((listSize ≡ n) × (spareSize ≡ n))))
-verify-lists-ask (step, chains) both ends sizes =
-    ((step, chains-at _ _ _ _ _ _ _ step chains, set-inside _ _ _ _ _ _ _ step chains), (both, ((ends .lower-end, ends .upper-end), sizes)))
+    × ((Contains (planOf p) side n (k - 1) subs starts slots × (end ≡ used (planOf p) side (k - 1))) × ((listSize ≡ n) × (spareSize ≡ n)))
+verify-side-asks (step, chains) contained end-is sizes =
+    ((step, chains-at _ _ _ _ _ _ _ step chains, set-inside _ _ _ _ _ _ _ step chains), ((contained, end-is), sizes))
 
 -- it is handed on
 pub verify-hand-asks :

@@ -1,6 +1,4 @@
 -- Laws that the proofs of the functions share.
-pub mod Verifying
 pub mod Coursing
 pub mod Counting
 pub mod Answering
-pub mod Short

@@ -1,4 +1,2 @@
 -- What the contracts cite.
-pub mod Verifying
 pub mod Course
-pub mod Short

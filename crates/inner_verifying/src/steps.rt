@@ -1,93 +1,17 @@
 // A lent plan compared with this pattern's plan, step by step: the plan is made again in work stores alone, its lists looked for in the lent
 // stores.
 ghost use mathlib.Core.Path.{_≡_};
-ghost use Prim.Native.Nat.{suc, _-_, _<_};
+ghost use Prim.Native.Nat.{suc, _-_};
 ghost use lib.ListN.{length};
 ghost use Rattle.foundation.specs.Pattern.{lent};
-ghost use Rattle.foundation.specs.Plan.{lower, upper};
-ghost use Rattle.inner_gathering.specs.Ready.{Ready, planOf};
-ghost use Rattle.inner_gathering.specs.Contains.{used};
-ghost use Rattle.inner_gathering.specs.Steps.{StepOf, ChainsOf, ChainsAt, EndsAre};
-ghost use Rattle.inner_verifying.specs.Verifying.{BothContain, VerifiedListsAs};
-ghost use Rattle.inner_verifying.specs.Course.{VerifiedStepAs, VerifiedEndAs};
-use crate::appending::VerifiedShort;
-use crate::appending::verify_appended;
-use crate::step_lists::VerifiedLists;
-use crate::step_lists::verify_lists;
+ghost use Rattle.inner_gathering.specs.Ready.{Ready};
+ghost use Rattle.inner_gathering.specs.Steps.{StepOf, ChainsAt, EndsAre};
+ghost use Rattle.inner_verifying.specs.Course.{BothContain, VerifiedStepAs, VerifiedEndAs};
 use answers::SubscriptPlace;
+use inner_comparing::Verified;
+use inner_comparing::verify_side;
 use inner_gathering::hand_on;
 use inner_gathering::step_total;
-
-// Both sides of step k, the short way where it can be gone.
-fn found_lists(
-    n: usize,
-    k: usize,
-    row: usize,
-    row_links: &[usize],
-    set: usize,
-    set_links: &[usize],
-    starts: &[usize],
-    columns: &[usize],
-    l_subs: &[usize],
-    l_starts: &[usize],
-    l_slots: &[usize],
-    u_subs: &[usize],
-    u_starts: &[usize],
-    u_slots: &[usize],
-    list: &mut [usize],
-    spare: &mut [usize],
-    l_end: SubscriptPlace,
-    u_end: SubscriptPlace,
-) -> VerifiedLists
-    requires { ⌜ StepOf (lent n (now starts) (now columns)) n k × ChainsOf (lent n (now starts) (now columns)) k row (now «row_links») set (now «set_links») × (set < length (now «set_links»)) ⌝ }
-    requires { ⌜ BothContain (lent n (now starts) (now columns)) n (k - 1) (now «l_subs») (now «l_starts») (now «l_slots») (now «u_subs») (now «u_starts») (now «u_slots») ⌝ }
-    requires { ⌜ («l_end» .0 ≡ used (planOf (lent n (now starts) (now columns))) lower (k - 1)) × («u_end» .0 ≡ used (planOf (lent n (now starts) (now columns))) upper (k - 1)) ⌝ }
-    requires { ⌜ (length (now list) ≡ n) × (length (now spare) ≡ n) ⌝ }
-    ensures { λ r. ⌜ VerifiedListsAs r (lent n (now (starts .entry)) (now (columns .entry))) n k (now («l_subs» .entry)) (now («l_starts» .entry)) (now («l_slots» .entry)) (now («u_subs» .entry)) (now («u_starts» .entry)) (now («u_slots» .entry)) ⌝ }
-{
-    let short = verify_appended(
-        n,
-        k,
-        row,
-        row_links,
-        set,
-        set_links,
-        starts,
-        columns,
-        l_subs,
-        l_starts,
-        l_slots,
-        u_subs,
-        u_starts,
-        u_slots,
-        l_end,
-        u_end,
-    );
-    match short {
-        VerifiedShort::Both(l_next, u_next) => VerifiedLists::Both(l_next, u_next),
-        VerifiedShort::Differ => VerifiedLists::Differ,
-        VerifiedShort::Longer => verify_lists(
-            n,
-            k,
-            row,
-            row_links,
-            set,
-            set_links,
-            starts,
-            columns,
-            l_subs,
-            l_starts,
-            l_slots,
-            u_subs,
-            u_starts,
-            u_slots,
-            list,
-            spare,
-            l_end,
-            u_end,
-        ),
-    }
-}
 
 // How a step ends: on to the next, or the lent plan differs.
 pub enum VerifiedStep {
@@ -95,7 +19,7 @@ pub enum VerifiedStep {
     Differs,
 }
 
-// Step k of verifying a lent plan.
+// Step k of verifying a lent plan, L first.
 fn verify_step(
     n: usize,
     k: usize,
@@ -137,7 +61,8 @@ fn verify_step(
         l_slots,
         u_slots,
     );
-    let lists = found_lists(
+    let lowers = verify_side(
+        false,
         n,
         k,
         row,
@@ -149,32 +74,46 @@ fn verify_step(
         l_subs,
         l_starts,
         l_slots,
+        list,
+        spare,
+        l_end,
+    );
+    let Verified::End(l_next) = lowers else {
+        return VerifiedStep::Differs;
+    };
+    let uppers = verify_side(
+        true,
+        n,
+        k,
+        row,
+        row_links,
+        set,
+        set_links,
+        starts,
+        columns,
         u_subs,
         u_starts,
         u_slots,
         list,
         spare,
-        l_end,
         u_end,
     );
-    match lists {
-        VerifiedLists::Differ => VerifiedStep::Differs,
-        VerifiedLists::Both(l_next, u_next) => {
-            hand_on(
-                n,
-                k,
-                starts,
-                columns,
-                l_slots,
-                u_subs,
-                u_starts,
-                u_slots,
-                set_heads,
-                set_links,
-            );
-            VerifiedStep::On(l_next, u_next, reads + more)
-        }
-    }
+    let Verified::End(u_next) = uppers else {
+        return VerifiedStep::Differs;
+    };
+    hand_on(
+        n,
+        k,
+        starts,
+        columns,
+        l_slots,
+        u_subs,
+        u_starts,
+        u_slots,
+        set_heads,
+        set_links,
+    );
+    VerifiedStep::On(l_next, u_next, reads + more)
 }
 
 // How verifying ends: where both sides' used subscripts end and the reads, or that the lent plan differs.

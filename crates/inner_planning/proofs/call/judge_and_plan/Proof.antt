@@ -4,7 +4,8 @@ use mathlib.Core.Path.{_∙_}
 use native.Mathlib.Omega.{arith}
 use borrow.Author.Needs.{needs}
 use borrow.Author.Tests.{not-true, not-false}
-use Rattle.inner_gathering.proofs.Passing.{fault-range, fault-few}
+use Rattle.inner_patterns.proofs.Faults.{fault-range}
+use Rattle.inner_gathering.proofs.Passing.{fault-few}
 use Rattle.inner_planning.proofs.Answering.{refuse-fault, refuse-lengths, sizes, rows-ask, steps-ask, steps-end}
 use Rattle.inner_planning.proofs.call.judge_and_plan.Statement.{statement}
 use Rattle.inner_planning.proofs.call.judge_and_plan.Tie as tie

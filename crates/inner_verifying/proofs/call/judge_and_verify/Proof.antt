@@ -4,7 +4,8 @@ use mathlib.Core.Path.{refl, _∙_}
 use native.Mathlib.Omega.{arith}
 use borrow.Author.Needs.{needs}
 use borrow.Author.Tests.{not-true, not-false}
-use Rattle.inner_gathering.proofs.Passing.{fault-range, fault-few}
+use Rattle.inner_patterns.proofs.Faults.{fault-range}
+use Rattle.inner_gathering.proofs.Passing.{fault-few}
 use Rattle.inner_verifying.proofs.Answering.{verify-fault, verify-sizes, verify-rows-ask, verify-steps-ask, verify-places, verify-differs, verify-miscounts, verify-agrees}
 use Rattle.inner_verifying.proofs.call.judge_and_verify.Statement.{statement}
 use Rattle.inner_verifying.proofs.call.judge_and_verify.Tie as tie

@@ -1,9 +1,10 @@
 -- `verify_step` meets its contract: what it hands to each function that it calls, and what all of them leave, are laws of
--- `Answering`. Assumes nothing.
+-- `Coursing`. Assumes nothing.
+use mathlib.Core.Path.{refl, _∙_}
 use native.Mathlib.Omega.{arith}
 use borrow.Author.Needs.{needs}
 use Rattle.inner_gathering.proofs.Coursing.{sum-small}
-use Rattle.inner_verifying.proofs.Coursing.{verify-total-asks, verify-lists-ask, verify-hand-asks, verify-on}
+use Rattle.inner_verifying.proofs.Coursing.{verify-total-asks, verify-side-asks, verify-hand-asks, verify-on}
 use Rattle.inner_verifying.proofs.steps.verify_step.Statement.{statement}
 use Rattle.inner_verifying.proofs.steps.verify_step.Tie as tie
 
@@ -20,53 +21,87 @@ slice-read-set : tie.Need-slice-read-set
 slice-read-set c = search needs
 
 step-total-requires : tie.Need-step-total-requires
-step-total-requires c κs = verify-total-asks (c .before .before .before .before .before .before .before .before .before .before .before .before .before .before .before .before .before .pre .0) (c .before .before .before .before .before .before .before .before .before .before .before .before .before .before .before .before .before .pre .1 .0)
+step-total-requires c κs =
+    let pre = c .before .before .before .before .before .before .before .before .before .before .before .before .before .before .before .before .before .pre in
+    verify-total-asks (pre .0) (pre .1 .0)
 
-found-lists-requires : tie.Need-found-lists-requires
-found-lists-requires c κs = verify-lists-ask (c .before .before .before .before .before .before .before .before .before .before .before .before .before .before .before .before .before .before .before .before .before .pre .0) (c .before .before .before .before .before .before .before .before .before .before .before .before .before .before .before .before .before .before .before .before .before .pre .1 .0) (c .before .before .before .before .before .before .before .before .before .before .before .before .before .before .before .before .before .before .before .before .before .pre .1 .1 .0) (c .before .before .before .before .before .before .before .before .before .before .before .before .before .before .before .before .before .before .before .before .before .pre .1 .1 .1)
+verify-side-requires : tie.Need-verify-side-requires
+verify-side-requires c κs =
+    let pre = c .before .before .before .before .before .before .before .before .before .before .before .before .before .before .before .before .before .before .before .before .before .pre in
+    verify-side-asks (pre .0) (pre .1 .0 .lowers) (pre .1 .1 .0 .lower-end) (pre .1 .1 .1)
+
+enum-known-lowers : tie.Need-enum-known-lowers
+enum-known-lowers c = search needs
 
 enum-told : tie.Need-enum-told
 enum-told c = search needs
 
-enum-known-lists : tie.Need-enum-known-lists
-enum-known-lists c = search needs
+same-length : tie.Need-same-length
+same-length c = refl
+
+same-length-2 : tie.Need-same-length-2
+same-length-2 c = c .before .before .before .before .before .before .verify-side .kept .1 .1 .1 .1 .1 .1 .1 .1 .1 .1 .1 .1 .0
+
+same-length-3 : tie.Need-same-length-3
+same-length-3 c = c .before .before .before .before .before .before .verify-side .kept .1 .1 .1 .1 .1 .1 .1 .1 .1 .1 .1 .1 .1 .0
+
+returns : tie.Need-returns
+returns c both = (rw (c .enum-told .given .1) at (c .before .before .before .before .before .before .verify-side .ensures)) (both .lowers)
+
+verify-side-requires-2 : tie.Need-verify-side-requires-2
+verify-side-requires-2 c κs =
+    let pre = c .before .before .before .before .before .before .before .before .before .before .before .before .before .before .before .before .before .before .before .before .before .before .before .before .before .before .before .before .before .before .before .before .pre in
+    let kept = c .before .before .before .before .before .before .before .before .before .before .verify-side .kept in
+    let sizes = pre .1 .1 .1 in
+    verify-side-asks (pre .0) (pre .1 .0 .uppers) (pre .1 .1 .0 .upper-end) (kept .1 .1 .1 .1 .1 .1 .1 .1 .1 .1 .1 .1 .0 ∙ sizes .0, kept .1 .1 .1 .1 .1 .1 .1 .1 .1 .1 .1 .1 .1 .0 ∙ sizes .1)
+
+enum-known-uppers : tie.Need-enum-known-uppers
+enum-known-uppers c = search needs
+
+enum-told-2 : tie.Need-enum-told-2
+enum-told-2 c = search needs
+
+same-length-4 : tie.Need-same-length-4
+same-length-4 c = refl
+
+same-length-5 : tie.Need-same-length-5
+same-length-5 c = c .before .before .before .before .before .before .verify-side2 .kept .1 .1 .1 .1 .1 .1 .1 .1 .1 .1 .1 .1 .0 ∙ c .before .before .before .before .before .before .before .before .before .before .before .before .before .before .before .before .before .verify-side .kept .1 .1 .1 .1 .1 .1 .1 .1 .1 .1 .1 .1 .0
+
+same-length-6 : tie.Need-same-length-6
+same-length-6 c = c .before .before .before .before .before .before .verify-side2 .kept .1 .1 .1 .1 .1 .1 .1 .1 .1 .1 .1 .1 .1 .0 ∙ c .before .before .before .before .before .before .before .before .before .before .before .before .before .before .before .before .before .verify-side .kept .1 .1 .1 .1 .1 .1 .1 .1 .1 .1 .1 .1 .1 .0
+
+returns-2 : tie.Need-returns-2
+returns-2 c both = (rw (c .enum-told2 .given .1) at (c .before .before .before .before .before .before .verify-side2 .ensures)) (both .uppers)
 
 hand-on-requires : tie.Need-hand-on-requires
 hand-on-requires c κs =
-    let lists = rw (c .before .before .before .lists .given .1) at (c .before .before .before .before .before .before .before .before .before .found-lists .ensures) in
-    verify-hand-asks (c .before .before .before .before .before .before .before .before .before .before .before .before .before .before .before .before .before .before .before .before .before .before .before .before .before .before .before .before .before .before .before .pre .0) (lists .2)
+    let lower = rw (c .before .before .before .before .before .before .before .before .before .before .before .before .before .before .lowers .given .1) at (c .before .before .before .before .before .before .before .before .before .before .before .before .before .before .before .before .before .before .before .before .verify-side .ensures) in
+    let upper = rw (c .before .before .before .uppers .given .1) at (c .before .before .before .before .before .before .before .before .before .verify-side2 .ensures) in
+    verify-hand-asks (c .before .before .before .before .before .before .before .before .before .before .before .before .before .before .before .before .before .before .before .before .before .before .before .before .before .before .before .before .before .before .before .before .before .before .before .before .before .before .before .before .before .before .pre .0) (record { lowers = lower .1; uppers = upper .1 })
 
-add-t44 : tie.Need-add-t44
-add-t44 c = omega (arith, sum-small (c .before .before .before .before .before .before .before .before .before .before .before .before .before .before .before .before .before .before .before .before .before .before .before .before .before .before .before .before .before .before .before .before .before .before .before .before .pre .0 .0) (c .before .before .before .before .before .before .before .before .before .before .before .before .before .before .before .before .before .before .before .before .before .before .before .before .before .before .before .before .before .before .before .before .before .before .before .before .pre .1 .1 .0) (c .before .before .before .before .before .before .before .before .before .before .before .before .before .before .before .before .before .before .step-total .ensures))
-
-same-length : tie.Need-same-length
-same-length c = search needs
-
-same-length-2 : tie.Need-same-length-2
-same-length-2 c = search needs
-
-same-length-3 : tie.Need-same-length-3
-same-length-3 c = search needs
-
-returns : tie.Need-returns
-returns c = rw (c .enum-told .given .1) at (c .before .before .before .before .before .before .found-lists .ensures)
-
-same-length-4 : tie.Need-same-length-4
-same-length-4 c = search needs
-
-same-length-5 : tie.Need-same-length-5
-same-length-5 c = search needs
-
-same-length-6 : tie.Need-same-length-6
-same-length-6 c = search needs
+add-t27 : tie.Need-add-t27
+add-t27 c =
+    let pre = c .before .before .before .before .before .before .before .before .before .before .before .before .before .before .before .before .before .before .before .before .before .before .before .before .before .before .before .before .before .before .before .before .before .before .before .before .before .before .before .before .before .before .before .before .before .before .before .pre in
+    omega (arith, sum-small (pre .0 .0) (pre .1 .1 .0) (c .before .before .before .before .before .before .before .before .before .before .before .before .before .before .before .before .before .before .before .before .before .before .before .before .before .before .before .before .before .step-total .ensures))
 
 same-length-7 : tie.Need-same-length-7
-same-length-7 c = search needs
+same-length-7 c = c .before .before .before .before .hand-on .kept .1 .1 .1 .1 .1 .1 .1 .1 .0
 
-returns-2 : tie.Need-returns-2
-returns-2 c =
-    let lists = rw (c .before .before .before .before .before .before .before .before .lists .given .1) at (c .before .before .before .before .before .before .before .before .before .before .before .before .before .before .found-lists .ensures) in
-    verify-on (c .before .before .before .before .before .before .before .before .before .before .before .before .before .before .before .before .before .before .before .before .before .before .before .before .before .before .before .before .before .before .before .before .before .before .before .before .pre .0) (c .before .before .before .before .before .before .before .before .before .before .before .before .before .before .before .before .before .before .before .before .before .before .before .before .before .before .before .before .before .before .before .before .before .before .before .before .pre .1 .1 .0) (c .before .before .before .before .before .before .before .before .before .before .before .before .before .before .before .before .before .before .step-total .ensures) lists (c .before .before .before .before .hand-on .ensures)
+same-length-8 : tie.Need-same-length-8
+same-length-8 c = c .before .before .before .before .hand-on .kept .1 .1 .1 .1 .1 .1 .1 .1 .1 .0
+
+same-length-9 : tie.Need-same-length-9
+same-length-9 c = c .before .before .before .before .before .before .before .before .before .before .before .before .before .before .verify-side2 .kept .1 .1 .1 .1 .1 .1 .1 .1 .1 .1 .1 .1 .0 ∙ c .before .before .before .before .before .before .before .before .before .before .before .before .before .before .before .before .before .before .before .before .before .before .before .before .before .verify-side .kept .1 .1 .1 .1 .1 .1 .1 .1 .1 .1 .1 .1 .0
+
+same-length-10 : tie.Need-same-length-10
+same-length-10 c = c .before .before .before .before .before .before .before .before .before .before .before .before .before .before .verify-side2 .kept .1 .1 .1 .1 .1 .1 .1 .1 .1 .1 .1 .1 .1 .0 ∙ c .before .before .before .before .before .before .before .before .before .before .before .before .before .before .before .before .before .before .before .before .before .before .before .before .before .verify-side .kept .1 .1 .1 .1 .1 .1 .1 .1 .1 .1 .1 .1 .1 .0
+
+returns-3 : tie.Need-returns-3
+returns-3 c =
+    let pre = c .before .before .before .before .before .before .before .before .before .before .before .before .before .before .before .before .before .before .before .before .before .before .before .before .before .before .before .before .before .before .before .before .before .before .before .before .before .before .before .before .before .before .before .before .before .before .before .pre in
+    let lower = rw (c .before .before .before .before .before .before .before .before .before .before .before .before .before .before .before .before .before .before .before .lowers .given .1) at (c .before .before .before .before .before .before .before .before .before .before .before .before .before .before .before .before .before .before .before .before .before .before .before .before .before .verify-side .ensures) in
+    let upper = rw (c .before .before .before .before .before .before .before .before .uppers .given .1) at (c .before .before .before .before .before .before .before .before .before .before .before .before .before .before .verify-side2 .ensures) in
+    verify-on (pre .0) (pre .1 .1 .0) (c .before .before .before .before .before .before .before .before .before .before .before .before .before .before .before .before .before .before .before .before .before .before .before .before .before .before .before .before .before .step-total .ensures) (lower .0, upper .0, record { lowers = lower .1; uppers = upper .1 }) (c .before .before .before .before .hand-on .ensures)
 
 pub verify-step-spec : {M : Type 1} → statement M
 verify-step-spec =
@@ -77,17 +112,24 @@ verify-step-spec =
     mul-set
     slice-read-set
     step-total-requires
-    found-lists-requires
+    verify-side-requires
+    enum-known-lowers
     enum-told
-    enum-known-lists
-    hand-on-requires
-    add-t44
     same-length
     same-length-2
     same-length-3
     returns
+    verify-side-requires-2
+    enum-known-uppers
+    enum-told-2
     same-length-4
     same-length-5
     same-length-6
+    returns-2
+    hand-on-requires
+    add-t27
     same-length-7
-    returns-2)
+    same-length-8
+    same-length-9
+    same-length-10
+    returns-3)

@@ -1,0 +1,116 @@
+-- `verify_list` meets its contract by the laws of Verifying: the start, the end of the slots and the rest of the list stand as planned, or one does not.
+use native.Mathlib.Omega.{arith}
+use borrow.Author.Needs.{needs}
+use borrow.Author.Tests.{not-true, not-false}
+use Rattle.inner_comparing.proofs.Verifying.{verifying-inside, verifying-writable, differs-start, differs-slots, differs-rest, agrees}
+use Rattle.inner_comparing.proofs.kept_lists.verify_list.Statement.{statement}
+use Rattle.inner_comparing.proofs.kept_lists.verify_list.Tie as tie
+
+shared-end-requires : tie.Need-shared-end-requires
+shared-end-requires c κs =
+    let (p, side, h) = c .before .before .before .before .pre in
+    verifying-inside p side _ _ _ _ _ _ _ h
+
+sub-if1 : tie.Need-sub-if1
+sub-if1 c = search needs
+
+mul-if1 : tie.Need-mul-if1
+mul-if1 c = search needs
+
+shared-slice-read-if1 : tie.Need-shared-slice-read-if1
+shared-slice-read-if1 c = search needs
+
+sub-if1-2 : tie.Need-sub-if1-2
+sub-if1-2 c =
+    let (p, side, h) = c .before .before .before .before .before .before .pre in
+    verifying-writable p side _ _ _ _ _ _ _ h _ (c .before .shared-end .ensures) .shared-end
+
+returns : tie.Need-returns
+returns c p side h = differs-start p side _ _ _ _ _ _ _ h _ (c .before .before .shared-end .ensures) (c .if1 .taken)
+
+mul-if2 : tie.Need-mul-if2
+mul-if2 c = search needs
+
+shared-slice-read-if2 : tie.Need-shared-slice-read-if2
+shared-slice-read-if2 c = search needs
+
+sub-if2 : tie.Need-sub-if2
+sub-if2 c = search needs
+
+mul-if2-2 : tie.Need-mul-if2-2
+mul-if2-2 c = search needs
+
+shared-slice-read-if2-2 : tie.Need-shared-slice-read-if2-2
+shared-slice-read-if2-2 c = search needs
+
+add-if2 : tie.Need-add-if2
+add-if2 c =
+    let (p, side, h) = c .before .before .before .before .before .before .before .before .before .pre in
+    let w = verifying-writable p side _ _ _ _ _ _ _ h _ (c .before .before .before .before .shared-end .ensures) in
+    omega (arith, w)
+
+returns-2 : tie.Need-returns-2
+returns-2 c p side h = differs-slots p side _ _ _ _ _ _ _ h _ (c .before .before .before .before .before .shared-end .ensures) (λ e. let other = c .if2 .taken in omega (arith, e))
+
+mul-stands-at : tie.Need-mul-stands-at
+mul-stands-at c =
+    let (p, side, h) = c .before .before .before .before .before .before .before .before .before .before .pre in
+    let w = verifying-writable p side _ _ _ _ _ _ _ h _ (c .before .before .before .before .before .shared-end .ensures) in
+    omega (arith, w)
+
+sub-stands-at : tie.Need-sub-stands-at
+sub-stands-at c =
+    let (p, side, h) = c .before .before .before .before .before .before .before .before .before .before .pre in
+    verifying-writable p side _ _ _ _ _ _ _ h _ (c .before .before .before .before .before .shared-end .ensures) .shared-new
+
+part-stands-at-start : tie.Need-part-stands-at-start
+part-stands-at-start c =
+    let (p, side, h) = c .before .before .before .before .before .before .before .before .before .before .pre in
+    verifying-writable p side _ _ _ _ _ _ _ h _ (c .before .before .before .before .before .shared-end .ensures) .shared-new
+
+part-stands-at-end : tie.Need-part-stands-at-end
+part-stands-at-end c = search needs
+
+stands-at-requires : tie.Need-stands-at-requires
+stands-at-requires c κs = search needs
+
+returns-3 : tie.Need-returns-3
+returns-3 c p side h = differs-rest p side _ _ _ _ _ _ _ h _ (c .before .before .before .before .before .before .before .before .shared-end .ensures) _ (c .before .stands-at .ensures) (not-true _ (c .if3 .taken))
+
+sub-t11 : tie.Need-sub-t11
+sub-t11 c =
+    let (p, side, h) = c .before .before .before .before .before .before .before .before .before .before .before .before .before .pre in
+    verifying-writable p side _ _ _ _ _ _ _ h _ (c .before .before .before .before .before .before .before .before .shared-end .ensures) .shared-new
+
+add-t20 : tie.Need-add-t20
+add-t20 c = search needs
+
+returns-4 : tie.Need-returns-4
+returns-4 c p side h = agrees p side _ _ _ _ _ _ _ h _ (c .before .before .before .before .before .before .before .before .shared-end .ensures) _ (c .before .stands-at .ensures) (not-false _ (c .if3 .left)) (c .before .before .before .before .before .before .if1 .left) (c .before .before .before .if2 .left)
+
+pub verify-list-spec : {M : Type 1} → statement M
+verify-list-spec =
+    tie.close
+    (tie.spec
+    shared-end-requires
+    sub-if1
+    mul-if1
+    shared-slice-read-if1
+    sub-if1-2
+    returns
+    mul-if2
+    shared-slice-read-if2
+    sub-if2
+    mul-if2-2
+    shared-slice-read-if2-2
+    add-if2
+    returns-2
+    mul-stands-at
+    sub-stands-at
+    part-stands-at-start
+    part-stands-at-end
+    stands-at-requires
+    returns-3
+    sub-t11
+    add-t20
+    returns-4)

@@ -1,0 +1,83 @@
+-- `verify_rest` meets its contract: the start, the end of the slots and the rest of the list stand as they should, or one does not.
+use mathlib.Core.Bool.{false≢true}
+use mathlib.Core.Path.{refl, sym, _∙_}
+use borrow.Author.Needs.{needs}
+use borrow.Author.Tests.{not-true, not-false}
+use Rattle.inner_sharing.proofs.Comparing.{same-equal, equal-same}
+use Rattle.inner_comparing.proofs.kept_lists.verify_rest.Statement.{statement}
+use Rattle.inner_comparing.proofs.kept_lists.verify_rest.Tie as tie
+
+sub-if1 : tie.Need-sub-if1
+sub-if1 c = search needs
+
+mul-if1 : tie.Need-mul-if1
+mul-if1 c = search needs
+
+shared-slice-read-if1 : tie.Need-shared-slice-read-if1
+shared-slice-read-if1 c = search needs
+
+sub-if1-2 : tie.Need-sub-if1-2
+sub-if1-2 c = search needs
+
+returns : tie.Need-returns
+returns c = search needs
+
+mul-if2 : tie.Need-mul-if2
+mul-if2 c = search needs
+
+shared-slice-read-if2 : tie.Need-shared-slice-read-if2
+shared-slice-read-if2 c = search needs
+
+sub-if2 : tie.Need-sub-if2
+sub-if2 c = search needs
+
+mul-if2-2 : tie.Need-mul-if2-2
+mul-if2-2 c = search needs
+
+shared-slice-read-if2-2 : tie.Need-shared-slice-read-if2-2
+shared-slice-read-if2-2 c = search needs
+
+add-if2 : tie.Need-add-if2
+add-if2 c = search needs
+
+add-if2-2 : tie.Need-add-if2-2
+add-if2-2 c = search needs
+
+returns-2 : tie.Need-returns-2
+returns-2 c = search needs
+
+stands-at-requires : tie.Need-stands-at-requires
+stands-at-requires c κs = search needs
+
+returns-3 : tie.Need-returns-3
+returns-3 c a b d =
+    false≢true (sym (not-true _ (c .if3 .taken)) ∙ c .before .stands-at .ensures ∙ equal-same _ _ d)
+
+add-t10 : tie.Need-add-t10
+add-t10 c = search needs
+
+returns-4 : tie.Need-returns-4
+returns-4 c =
+    (refl, c .before .before .before .before .before .if1 .left, c .before .before .if2 .left, same-equal _ _ (sym (c .before .stands-at .ensures) ∙ not-false _ (c .if3 .left)))
+
+pub verify-rest-spec : {M : Type 1} → statement M
+verify-rest-spec =
+    tie.close
+    (tie.spec
+    sub-if1
+    mul-if1
+    shared-slice-read-if1
+    sub-if1-2
+    returns
+    mul-if2
+    shared-slice-read-if2
+    sub-if2
+    mul-if2-2
+    shared-slice-read-if2-2
+    add-if2
+    add-if2-2
+    returns-2
+    stands-at-requires
+    returns-3
+    add-t10
+    returns-4)

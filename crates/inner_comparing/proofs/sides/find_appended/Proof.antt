@@ -1,0 +1,162 @@
+-- `find_appended` meets its contract: the list is that of the step before with what the row adds behind it, on the side that the flag names.
+use native.Mathlib.Omega.{arith}
+use borrow.Author.Needs.{needs}
+use borrow.Author.Tests.{not-false}
+use Rattle.foundation.specs.Pattern.{lent}
+use Rattle.inner_appending.specs.Joining.{JoinsLast}
+use Rattle.inner_appending.proofs.Joining.{row-inside, joins, joins-not-sole, row-of, own-rest, columns-rest}
+use Rattle.inner_comparing.proofs.Short.{verifying-writable, verified}
+use Rattle.inner_comparing.proofs.sides.find_appended.Statement.{statement}
+use Rattle.inner_comparing.proofs.sides.find_appended.Tie as tie
+
+joins-last-requires : tie.Need-joins-last-requires
+joins-last-requires c κs =
+    let pre = c .before .before .before .before .before .before .before .pre in
+    (row-inside (pre .0 .0) (pre .0 .1), pre .0 .2, pre .0 .0 .low)
+
+returns : tie.Need-returns
+returns c = search needs
+
+added-behind-requires : tie.Need-added-behind-requires
+added-behind-requires c κs =
+    let pre = c .before .before .before .before .before .before .before .before .before .pre in
+    (joins (pre .0 .0) (pre .0 .1) (c .before .joins-last .ensures (not-false _ (c .if1 .left))), (pre .1 .0, pre .1 .1))
+
+enum-known-added : tie.Need-enum-known-added
+enum-known-added c = search needs
+
+enum-told : tie.Need-enum-told
+enum-told c = search needs
+
+returns-2 : tie.Need-returns-2
+returns-2 c = search needs
+
+-- the function's entry
+abbrev start : tie.After-known-told → tie.Start
+start c = c .before .before .before .before .before .before .before .before .before .before .before .before .before
+
+-- one row joins the list of the step before
+joined :
+    (c : tie.After-known-told)
+    → JoinsLast (lent (start c .args .n) (start c .args .starts .now) (start c .args .columns .now)) (start c .args .n) (start c .args .k) (start c .args .row)
+joined c = joins (start c .pre .0 .0) (start c .pre .0 .1) (c .before .before .before .before .before .joins-last .ensures (not-false _ (c .before .before .before .before .if1 .left)))
+
+sub-from : tie.Need-sub-from
+sub-from c =
+    let read = columns-rest _ (c .if2 .taken) (joined (c .before)) (rw (c .before .before .added .given .1) at (c .before .before .before .before .added-behind .ensures)) in
+    omega (arith, read)
+
+mul-from : tie.Need-mul-from
+mul-from c =
+    let read = columns-rest _ (c .if2 .taken) (joined (c .before)) (rw (c .before .before .added .given .1) at (c .before .before .before .before .added-behind .ensures)) in
+    omega (arith, read, row-of (joined (c .before)), joined (c .before) .step .ready .few, joined (c .before) .step .same-n)
+
+shared-slice-read-from : tie.Need-shared-slice-read-from
+shared-slice-read-from c =
+    let read = columns-rest _ (c .before .if2 .taken) (joined (c .before .before)) (rw (c .before .before .before .added .given .1) at (c .before .before .before .before .before .added-behind .ensures)) in
+    omega (arith, read)
+
+add-from : tie.Need-add-from
+add-from c =
+    let read = columns-rest _ (c .before .if2 .taken) (joined (c .before .before)) (rw (c .before .before .before .added .given .1) at (c .before .before .before .before .before .added-behind .ensures)) in
+    omega (arith, read)
+
+mul-to : tie.Need-mul-to
+mul-to c =
+    let read = columns-rest _ (c .before .if2 .taken) (joined (c .before .before)) (rw (c .before .before .before .added .given .1) at (c .before .before .before .before .before .added-behind .ensures)) in
+    omega (arith, read, row-of (joined (c .before .before)), joined (c .before .before) .step .ready .few, joined (c .before .before) .step .same-n)
+
+shared-slice-read-to : tie.Need-shared-slice-read-to
+shared-slice-read-to c =
+    let read = columns-rest _ (c .before .before .if2 .taken) (joined (c .before .before .before)) (rw (c .before .before .before .before .added .given .1) at (c .before .before .before .before .before .before .added-behind .ensures)) in
+    omega (arith, read)
+
+mul-verify-rest : tie.Need-mul-verify-rest
+mul-verify-rest c =
+    let read = columns-rest _ (c .before .before .if2 .taken) (joined (c .before .before .before)) (rw (c .before .before .before .before .added .given .1) at (c .before .before .before .before .before .before .added-behind .ensures)) in
+    omega (arith, read)
+
+sub-verify-rest : tie.Need-sub-verify-rest
+sub-verify-rest c =
+    let read = columns-rest _ (c .before .before .if2 .taken) (joined (c .before .before .before)) (rw (c .before .before .before .before .added .given .1) at (c .before .before .before .before .before .before .added-behind .ensures)) in
+    omega (arith, read)
+
+part-verify-rest-start : tie.Need-part-verify-rest-start
+part-verify-rest-start c =
+    let read = columns-rest _ (c .before .before .if2 .taken) (joined (c .before .before .before)) (rw (c .before .before .before .before .added .given .1) at (c .before .before .before .before .before .before .added-behind .ensures)) in
+    omega (arith, read)
+
+part-verify-rest-end : tie.Need-part-verify-rest-end
+part-verify-rest-end c =
+    let read = columns-rest _ (c .before .before .if2 .taken) (joined (c .before .before .before)) (rw (c .before .before .before .before .added .given .1) at (c .before .before .before .before .before .before .added-behind .ensures)) in
+    omega (arith, read)
+
+verify-rest-requires : tie.Need-verify-rest-requires
+verify-rest-requires c κs =
+    let s = start (c .before .before .before .before) in
+    let found = (columns-rest _ (c .before .before .before .if2 .taken) (joined (c .before .before .before .before)) (rw (c .before .before .before .before .before .added .given .1) at (c .before .before .before .before .before .before .before .added-behind .ensures))) .found in
+    verifying-writable (s .pre .0 .0) (s .pre .1 .0) (s .pre .1 .1) (joins-not-sole (joined (c .before .before .before .before))) found
+
+returns-3 : tie.Need-returns-3
+returns-3 c =
+    let s = start (c .before .before .before .before .before) in
+    let found = (columns-rest _ (c .before .before .before .before .if2 .taken) (joined (c .before .before .before .before .before)) (rw (c .before .before .before .before .before .before .added .given .1) at (c .before .before .before .before .before .before .before .before .added-behind .ensures))) .found in
+    verified (s .pre .0 .0) (s .pre .1 .0) (s .pre .1 .1) (joins-not-sole (joined (c .before .before .before .before .before))) found (c .verify-rest .result) (c .verify-rest .ensures)
+
+mul-verify-rest-2 : tie.Need-mul-verify-rest-2
+mul-verify-rest-2 c =
+    let few = (own-rest _ _ (c .if2 .left) (rw (c .before .before .added .given .1) at (c .before .before .before .before .added-behind .ensures))) .0 in
+    omega arith
+
+sub-verify-rest-2 : tie.Need-sub-verify-rest-2
+sub-verify-rest-2 c =
+    let few = (own-rest _ _ (c .if2 .left) (rw (c .before .before .added .given .1) at (c .before .before .before .before .added-behind .ensures))) .0 in
+    omega arith
+
+part-verify-rest-start-2 : tie.Need-part-verify-rest-start-2
+part-verify-rest-start-2 c =
+    let few = (own-rest _ _ (c .before .if2 .left) (rw (c .before .before .before .added .given .1) at (c .before .before .before .before .before .added-behind .ensures))) .0 in
+    omega arith
+
+part-verify-rest-end-2 : tie.Need-part-verify-rest-end-2
+part-verify-rest-end-2 c = search needs
+
+verify-rest-requires-2 : tie.Need-verify-rest-requires-2
+verify-rest-requires-2 c κs =
+    let s = start (c .before .before .before) in
+    verifying-writable (s .pre .0 .0) (s .pre .1 .0) (s .pre .1 .1) (joins-not-sole (joined (c .before .before .before))) ((own-rest _ _ (c .before .before .if2 .left) (rw (c .before .before .before .before .added .given .1) at (c .before .before .before .before .before .before .added-behind .ensures))) .1)
+
+returns-4 : tie.Need-returns-4
+returns-4 c =
+    let s = start (c .before .before .before .before) in
+    let found = (own-rest _ _ (c .before .before .before .if2 .left) (rw (c .before .before .before .before .before .added .given .1) at (c .before .before .before .before .before .before .before .added-behind .ensures))) .1 in
+    verified (s .pre .0 .0) (s .pre .1 .0) (s .pre .1 .1) (joins-not-sole (joined (c .before .before .before .before))) found (c .verify-rest2 .result) (c .verify-rest2 .ensures)
+
+pub find-appended-spec : {M : Type 1} → statement M
+find-appended-spec =
+    tie.close
+    (tie.spec
+    joins-last-requires
+    returns
+    added-behind-requires
+    enum-known-added
+    enum-told
+    returns-2
+    sub-from
+    mul-from
+    shared-slice-read-from
+    add-from
+    mul-to
+    shared-slice-read-to
+    mul-verify-rest
+    sub-verify-rest
+    part-verify-rest-start
+    part-verify-rest-end
+    verify-rest-requires
+    returns-3
+    mul-verify-rest-2
+    sub-verify-rest-2
+    part-verify-rest-start-2
+    part-verify-rest-end-2
+    verify-rest-requires-2
+    returns-4)

@@ -1,0 +1,113 @@
+-- `join_here` meets its contract: a list that only adds behind the end of what is grown is written there; of any other the union with what is
+-- grown goes into the other store.
+use mathlib.Core.Path.{refl}
+use native.Mathlib.Omega.{arith}
+use borrow.Author.Needs.{needs}
+use Rattle.inner_gathering.proofs.Joining.{merge-room, merge-grown, behind-room, behind-grown}
+use Rattle.inner_gathering.proofs.gather.join_here.Statement.{statement}
+use Rattle.inner_gathering.proofs.gather.join_here.Tie as tie
+
+after-first-requires : tie.Need-after-first-requires
+after-first-requires c κs = search needs
+
+sub-search-behind : tie.Need-sub-search-behind
+sub-search-behind c = search needs
+
+part-search-behind-start : tie.Need-part-search-behind-start
+part-search-behind-start c = search needs
+
+part-search-behind-end : tie.Need-part-search-behind-end
+part-search-behind-end c = search needs
+
+search-behind-requires : tie.Need-search-behind-requires
+search-behind-requires c κs = search needs
+
+enum-known-at : tie.Need-enum-known-at
+enum-known-at c = search needs
+
+mul-append : tie.Need-mul-append
+mul-append c =
+    let told = rw (c .before .at .given .1) at (c .before .before .before .search-behind .ensures) in
+    let inside = told .0 in
+    omega arith
+
+sub-append : tie.Need-sub-append
+sub-append c = let told = rw (c .before .at .given .1) at (c .before .before .before .search-behind .ensures) in told .0
+
+part-append-start : tie.Need-part-append-start
+part-append-start c = let told = rw (c .before .at .given .1) at (c .before .before .before .search-behind .ensures) in told .0
+
+part-append-end : tie.Need-part-append-end
+part-append-end c = search needs
+
+append-requires : tie.Need-append-requires
+append-requires c κs =
+    let s = c .before .before .before .before .before .before .before .before .before .before .before .before .before in
+    behind-room (s .pre .1) (s .pre .2) (s .pre .3) (c .before .before .before .before .before .before .before .before .before .after-first .ensures) _
+    (rw (c .before .before .before .at .given .1) at (c .before .before .before .before .before .search-behind .ensures))
+
+same-length : tie.Need-same-length
+same-length c = c .before .before .append .kept .1 .0
+
+returns : tie.Need-returns
+returns c =
+    let s = c .before .before .before .before .before .before .before .before .before .before .before .before .before .before .before .before in
+    let a = c .before .before .append in
+    behind-grown (s .pre .1) (s .pre .2) (s .pre .3) (c .before .before .before .before .before .before .before .before .before .before .before .before .after-first .ensures) _
+    (rw (c .before .before .before .before .before .before .at .given .1) at (c .before .before .before .before .before .before .before .before .search-behind .ensures))
+    (a .kept .1 .0) (a .ensures)
+
+enum-told : tie.Need-enum-told
+enum-told c = search needs
+
+sub-merge : tie.Need-sub-merge
+sub-merge c = search needs
+
+part-merge-start : tie.Need-part-merge-start
+part-merge-start c = search needs
+
+part-merge-end : tie.Need-part-merge-end
+part-merge-end c = search needs
+
+merge-requires : tie.Need-merge-requires
+merge-requires c κs =
+    let s = c .before .before .before .before .before .before .before .before in
+    merge-room (s .pre .1) (s .pre .2) (s .pre .3) (c .before .before .before .before .after-first .ensures)
+
+same-length-2 : tie.Need-same-length-2
+same-length-2 c = refl
+
+same-length-3 : tie.Need-same-length-3
+same-length-3 c = c .before .before .merge .kept .1 .1 .0
+
+returns-2 : tie.Need-returns-2
+returns-2 c =
+    let s = c .before .before .before .before .before .before .before .before .before .before .before in
+    let m = c .before .before .merge in
+    merge-grown (s .pre .1) (s .pre .2) (s .pre .3) (c .before .before .before .before .before .before .before .after-first .ensures) (m .kept .1 .1 .0) (m .ensures)
+
+pub join-here-spec : {M : Type 1} → statement M
+join-here-spec =
+    tie.close
+    (tie.spec
+    after-first-requires
+    sub-search-behind
+    part-search-behind-start
+    part-search-behind-end
+    search-behind-requires
+    enum-known-at
+    mul-append
+    sub-append
+    part-append-start
+    part-append-end
+    append-requires
+    same-length
+    returns
+    enum-told
+    sub-merge
+    part-merge-start
+    part-merge-end
+    merge-requires
+    same-length-2
+    same-length-3
+    returns-2)

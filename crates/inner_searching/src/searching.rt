@@ -1,0 +1,62 @@
+// How a list lies to another: whether it only adds behind its end.
+ghost use Prim.Native.Nat.{_≤_, _<_};
+ghost use lib.ListN.{length};
+ghost use Rattle.inner_searching.specs.Behind.{BehindAs};
+
+// A place among the members of a list from `from` on, found by halves: in an ascending list that of the last member not above x, if one is not.
+fn place_near(list: &[usize], from: usize, x: usize) -> usize
+    requires { ⌜ from < length (now list) ⌝ }
+    ensures { λ r. ⌜ (from ≤ r) × (r < length (now (list .entry))) ⌝ }
+{
+    let mut low = from;
+    let mut left = list.len() - from;
+    while 1 < left {
+        let half = left / 2;
+        left -= half;
+        if list[low + half] <= x {
+            low += half;
+            continue;
+        }
+    }
+    low
+}
+
+// How a second list lies to a first: from some place on behind it, all before that place being members of it; or not so.
+pub enum Behind {
+    From(usize),
+    Between,
+}
+
+// The members of the second list up to the last one of the first are looked up in the first.
+pub fn search_behind(have: &[usize], more: &[usize]) -> Behind
+    ensures { λ r. ⌜ BehindAs r (now (have .entry)) (now (more .entry)) ⌝ }
+{
+    let size = have.len();
+    if size == 0 {
+        return Behind::From(0);
+    }
+    let last = have[size - 1];
+    let mut a = 0;
+    let mut b = 0;
+    while b < more.len() {
+        let x = more[b];
+        if last < x {
+            return Behind::From(b);
+        }
+        if a == size {
+            return Behind::Between;
+        }
+        if have[a] == x {
+            a += 1;
+            b += 1;
+            continue;
+        }
+        let near = place_near(have, a, x);
+        if have[near] != x {
+            return Behind::Between;
+        }
+        a = near + 1;
+        b += 1;
+    }
+    Behind::From(b)
+}
