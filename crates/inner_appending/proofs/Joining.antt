@@ -1,6 +1,6 @@
 -- One row joins the list of the step before: what the list of the step then is, and how much of it the store has already.
-use mathlib.Core.Bool.{Bool, true, false, false≢true, _||_}
-use mathlib.Core.List.{List, [], _∷_, _++_}
+use mathlib.Core.Bool.{Bool, true, false, _||_}
+use mathlib.Core.List.{List, [], _∷_, _++_, append-nil}
 use mathlib.Core.Path.{_≡_, refl, sym, ap, _∙_}
 use Prim.Native.Nat.{ℕ, zero, suc, _+_, _-_, _≤_, _<_}
 use native.Mathlib.Nat.{sub-zero}
@@ -11,13 +11,14 @@ use lib.Seq.{drop-drop, drop-at, take-all, length-take-le}
 use borrow.Author.Tests.{eqb-true, eq-eqb, ne-eqb}
 use Rattle.lists.specs.Functions.{empty}
 use Rattle.lists.specs.Sets.{member, Ascending, union, joinAll, begins, overlap}
-use Rattle.lists.proofs.Members.{by-test, member-head, member-union, and-both}
+use Rattle.lists.proofs.Members.{by-test, member-head, member-union, and-both, union-nil-right}
 use Rattle.lists.proofs.Order.{ascending-union, same-members}
 use Rattle.foundation.specs.Pattern.{Lent, lent, patternOf, maxEntries}
 use Rattle.foundation.specs.Plan.{Side, lower, upper, brings}
 use Rattle.foundation.specs.Subscripts.{kept, shared, sharedEnd, soleStep}
 use Rattle.inner_stores.proofs.Chaining.{linked-end, linked-next}
-use Rattle.inner_gathering.specs.Ready.{planOf, sideOf}
+use Rattle.inner_searching.proofs.Passing.{behind-nothing, passed-none, passed-behind}
+use Rattle.inner_gathering.specs.Ready.{planOf}
 use Rattle.inner_gathering.specs.Gathering.{without, Within}
 use Rattle.inner_gathering.specs.Contains.{used, Contains}
 use Rattle.inner_gathering.specs.Steps.{StepOf, ChainsOf}
@@ -25,7 +26,7 @@ use Rattle.inner_gathering.proofs.Contains.{Opened, contains-opens, kept-within
 use Rattle.inner_gathering.proofs.Joining.{without-within}
 use Rattle.inner_gathering.proofs.Gathering.{brings-within, from-rows-is, from-steps-is, handed-within, RowRead, row-turn, upper-brings}
 use Rattle.inner_appending.specs.Rest.{RestOf}
-use Rattle.inner_appending.specs.Joining.{ChainsJoin, JoinsLast, JoinedAs, AddedAs}
+use Rattle.inner_appending.specs.Joining.{ChainsJoin, JoinsLast, LastReady, JoinedAs, AddedAs}
 use Rattle.inner_appending.specs.declared.appended.Added.{Added}
 use Rattle.inner_appending.specs.declared.appended.Added.the-variants.{Behind, Elsewhere}
 
@@ -103,6 +104,29 @@ joined-as k at last more have comes h c (inside, behind) =
     let part : drop at comes ≡ drop (length more - length comes + at) more =
     ap (drop at) (c ∙ without-drop k more ∙ rw (← size)) ∙ drop-drop at (length more - length comes) more in
     (ap length h, omega arith, λ low up. rw (← h, ← c) (behind low (rw h up) ∙ ap (λ (xs : List ℕ). have ++ xs) part))
+
+-- one row behind another list: it is k itself, or stands behind the last member
+own-alone : (k row : ℕ) → (row ≡ k → ⊥) → without k (row ∷ []) ≡ row ∷ []
+unfolding without
+own-alone k row other = rw (ne-eqb row k other)
+
+module _ (k row : ℕ) (last have : List ℕ) (h : have ≡ without k last) where
+  pub own-itself : row ≡ k → JoinedAs (Behind (length have) 1) k last (row ∷ [])
+  unfolding without
+  own-itself e = (ap length h, omega arith, λ low up. rw (eq-eqb row k e, union-nil-right, append-nil))
+
+  module _ (other : row ≡ k → ⊥) where
+    pub own-first : length have ≡ 0 → JoinedAs (Behind (length have) 0) k last (row ∷ [])
+    own-first none =
+        (ap length h, omega arith, λ low up. rw (own-alone k row other, ← h) (behind-nothing have (row ∷ []) none low (rw h up)))
+
+    pub own-behind : 0 < length have → getD have (length have - 1) 0 < row → JoinedAs (Behind (length have) 0) k last (row ∷ [])
+    own-behind some above = (
+      ap length h,
+      omega arith,
+      λ low up. rw (own-alone k row other, ← h)
+          (passed-behind have (row ∷ []) 0 0 (passed-none have (row ∷ [])) some (omega arith) above low (rw h up)),
+    )
 
 take-none : (count : ℕ) → take {A = ℕ} count [] ≡ []
 take-none zero = refl
@@ -221,6 +245,18 @@ last-read {p} {side} {n} {k} {subs = subs} {starts = starts} {slots = slots} j c
       count = rw two at (o .count);
     }
 
+pub last-ready :
+    {p : Lent} {side : Side} {n k row : ℕ} {subs starts slots : List ℕ} → JoinsLast p n k row → LastRead p side k subs starts slots
+    → length subs < 18446744073709551616 → LastReady k starts slots
+last-ready j read small =
+    record {
+      later = j .later;
+      starts-size = read .starts-size;
+      slots-size = read .slots-size;
+      rising = read .rising;
+      small = omega (arith, read .inside);
+    }
+
 -- the row first met
 pub row-of : {n : ℕ} {starts columns : List ℕ} {k row : ℕ} → JoinsLast (lent n starts columns) n k row → RowRead n starts columns row
 row-of {n} {starts} {columns} {k} {row} j = row-turn n starts columns (j .step .ready) k (j .step .low) (j .step .high) row (row-met j)
@@ -240,34 +276,36 @@ added-as Elsewhere start count end last more j read end-is s c ends l m found = 
 
 -- ---- what is written or looked for
 
+-- what a row brings to L is itself
+pub own-brings : (p : Lent) (row : ℕ) → row ∷ [] ≡ brings (patternOf p) lower row
+unfolding brings
+own-brings p row = refl
+
 -- the row itself, where it is added to L
 pub own-rest :
-    (up : Bool) {p : Lent} {k t from : ℕ} (row : ℕ) → up ≡ false
-    → (from ≤ length (brings (patternOf p) (sideOf up) row)) × RestOf p (sideOf up) k t (drop from (brings (patternOf p) (sideOf up) row))
-    → (from ≤ 1) × RestOf p (sideOf up) k t (take (1 - from) (drop from (row ∷ [])))
+    {p : Lent} {k t from : ℕ} (row : ℕ) → (from ≤ length (brings (patternOf p) lower row)) × RestOf p lower k t (drop from (brings (patternOf p) lower row))
+    → (from ≤ 1) × RestOf p lower k t (take (1 - from) (drop from (row ∷ [])))
 unfolding brings
-own-rest true row e h = absurd (false≢true (sym e))
-own-rest false {from = from} row e (few, found) =
+own-rest {from = from} row (few, found) =
     let all : take (1 - from) (drop from (row ∷ [])) ≡ drop from (row ∷ []) = take-all (1 - from) (drop from (row ∷ [])) (rw length-drop (omega arith)) in
     (few, rw all found)
 
 -- The columns of a row from a place on, where they are added to U.
-pub record ColumnsRead (up : Bool) (n : ℕ) (starts columns : List ℕ) (k t from row : ℕ) : Type 0 where
+pub record ColumnsRead (n : ℕ) (starts columns : List ℕ) (k t from row : ℕ) : Type 0 where
   pub low : 1 ≤ row
   pub high : row < length starts
   pub rising : getD starts (row - 1) 0 + from ≤ getD starts row 0
   pub inside : getD starts row 0 ≤ length columns
   pub few : length columns ≤ 16384
-  pub found : RestOf (lent n starts columns) (sideOf up) k t (take (getD starts row 0 - (getD starts (row - 1) 0 + from)) (drop (getD starts (row - 1) 0 + from) columns))
+  pub found : RestOf (lent n starts columns) upper k t (take (getD starts row 0 - (getD starts (row - 1) 0 + from)) (drop (getD starts (row - 1) 0 + from) columns))
 
 pub columns-rest :
-    (up : Bool) {n : ℕ} {starts columns : List ℕ} {k t from row : ℕ} → up ≡ true → JoinsLast (lent n starts columns) n k row
-    → (from ≤ length (brings (patternOf (lent n starts columns)) (sideOf up) row))
-    × RestOf (lent n starts columns) (sideOf up) k t (drop from (brings (patternOf (lent n starts columns)) (sideOf up) row))
-    → ColumnsRead up n starts columns k t from row
+    {n : ℕ} {starts columns : List ℕ} {k t from row : ℕ} → JoinsLast (lent n starts columns) n k row
+    → (from ≤ length (brings (patternOf (lent n starts columns)) upper row))
+    × RestOf (lent n starts columns) upper k t (drop from (brings (patternOf (lent n starts columns)) upper row))
+    → ColumnsRead n starts columns k t from row
 unfolding maxEntries lent
-columns-rest false e j h = absurd (false≢true e)
-columns-rest true {n} {starts} {columns} {k} {t} {from} {row} e j (few, found) =
+columns-rest {n} {starts} {columns} {k} {t} {from} {row} j (few, found) =
     let read = row-of j in
     let is = upper-brings n starts columns (j .step .ready) k (j .step .low) (j .step .high) true row (row-met j) refl in
     let a : ℕ = getD starts (row - 1) 0 in

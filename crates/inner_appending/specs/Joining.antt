@@ -1,7 +1,7 @@
 -- Where one row joins the list of the step before.
 use mathlib.Core.List.{List, [], _∷_, _++_}
 use mathlib.Core.Path.{_≡_}
-use Prim.Native.Nat.{ℕ, _-_, _≤_, _<_}
+use Prim.Native.Nat.{ℕ, _+_, _-_, _≤_, _<_}
 use lib.ListN.{length, drop, getD}
 use Rattle.lists.specs.Sets.{union, Ascending}
 use Rattle.foundation.specs.Pattern.{Lent, patternOf}
@@ -10,6 +10,8 @@ use Rattle.inner_gathering.specs.Ready.{planOf}
 use Rattle.inner_gathering.specs.Gathering.{without}
 use Rattle.inner_gathering.specs.Steps.{StepOf}
 use Rattle.inner_appending.specs.Rest.{RestOf}
+use Rattle.inner_appending.specs.declared.appended.Last.{Last}
+use Rattle.inner_appending.specs.declared.appended.Last.the-variants.{Members, Before}
 use Rattle.inner_appending.specs.declared.appended.Added.{Added}
 use Rattle.inner_appending.specs.declared.appended.Added.the-variants.{Behind, Elsewhere}
 
@@ -27,6 +29,20 @@ pub record JoinsLast (p : Lent) (n k row : ℕ) : Type 0 where
   pub later : 2 ≤ k
   pub rows : planOf p .firstMet k ≡ row ∷ []
   pub steps : planOf p .S k ≡ (k - 1) ∷ []
+
+-- The start of the list of step k-1 and the ends of its slots can be read.
+pub record LastReady (k : ℕ) (starts slots : List ℕ) : Type 0 where
+  pub later : 2 ≤ k
+  pub starts-size : k ≤ length starts
+  pub slots-size : k < length slots
+  pub rising : getD slots (k - 2) 0 ≤ getD slots (k - 1) 0
+  pub small : getD starts (k - 2) 0 + (getD slots (k - 1) 0 - getD slots (k - 2) 0) < 18446744073709551616
+
+-- the list of step k-1 ends its store, or does not
+abbrev pub LastAs : Last → ℕ → (starts slots : List ℕ) → ℕ → Type 0
+LastAs (Members start count) k starts slots end =
+    (start .0 ≡ getD starts (k - 2) 0) × (count ≡ getD slots (k - 1) 0 - getD slots (k - 2) 0) × (start .0 + count ≡ end)
+LastAs Before k starts slots end = Unit
 
 -- how a list lies to the one before it, both without k
 abbrev pub JoinedAs : Added → ℕ → List ℕ → List ℕ → Type 0

@@ -3,10 +3,11 @@ ghost use mathlib.Core.Bool.{true};
 ghost use mathlib.Core.Path.{_≡_};
 ghost use Prim.Native.Nat.{_-_, _≤_, _<_};
 ghost use lib.ListN.{length};
-ghost use Rattle.foundation.specs.Pattern.{lent};
-ghost use Rattle.inner_gathering.specs.Ready.{planOf, sideOf};
+ghost use Rattle.foundation.specs.Pattern.{Lent, lent};
+ghost use Rattle.foundation.specs.Plan.{lower, upper};
+ghost use Rattle.inner_gathering.specs.Ready.{planOf};
 ghost use Rattle.inner_gathering.specs.Contains.{used, Contains};
-ghost use Rattle.inner_appending.specs.Joining.{ChainsJoin, JoinsLast, JoinedAs, AddedAs};
+ghost use Rattle.inner_appending.specs.Joining.{ChainsJoin, JoinsLast, LastReady, LastAs, JoinedAs, AddedAs};
 use answers::SlotPlace;
 use answers::SubscriptPlace;
 use inner_gathering::after_first;
@@ -63,9 +64,57 @@ fn joined_behind(k: usize, last: &[usize], more: &[usize]) -> Added
     Added::Behind(have.len(), more.len() - comes.len() + at)
 }
 
-// What a row first met at k adds behind the list of step k-1: on the side of L itself, on the side of U its columns.
-pub fn added_behind(
-    upper: bool,
+// Where the list of step k-1 lies and how many members it has, if it ends its store.
+pub enum Last {
+    Members(SubscriptPlace, usize),
+    Before,
+}
+
+// The list of step k-1, if it ends its store.
+fn last_list(k: usize, list_starts: &[usize], slots: &[usize], end: SubscriptPlace) -> Last
+    requires { ⌜ LastReady k (now «list_starts») (now slots) ⌝ }
+    ensures { λ r. ⌜ LastAs r k (now («list_starts» .entry)) (now (slots .entry)) (end .0) ⌝ }
+{
+    let start = list_starts[k - 2];
+    let count = slots_between(SlotPlace(slots[k - 2]), SlotPlace(slots[k - 1]));
+    if start + count != end.0 {
+        return Last::Before;
+    }
+    Last::Members(SubscriptPlace(start), count)
+}
+
+// What a row first met at k adds behind the list of step k-1 of L: itself, unless it is k. It is compared with the last member alone.
+pub fn added_own(
+    n: usize,
+    k: usize,
+    row: usize,
+    subs: &[usize],
+    list_starts: &[usize],
+    slots: &[usize],
+    end: SubscriptPlace,
+) -> Added
+    requires { ⌜ ((p : Lent) × JoinsLast p n k row × Contains (planOf p) lower n (k - 1) (now subs) (now «list_starts») (now slots) × (end .0 ≡ used (planOf p) lower (k - 1))) ⌝ }
+    ensures { λ r. ⌜ ((p : Lent) → JoinsLast p n k row → Contains (planOf p) lower n (k - 1) (now (subs .entry)) (now («list_starts» .entry)) (now (slots .entry)) → end .0 ≡ used (planOf p) lower (k - 1) → AddedAs r p lower k row) ⌝ }
+{
+    let Last::Members(start, count) = last_list(k, list_starts, slots, end) else {
+        return Added::Elsewhere;
+    };
+    let have = after_first(k, list_at(subs, start, count));
+    let size = have.len();
+    if row == k {
+        return Added::Behind(size, 1);
+    }
+    if size == 0 {
+        return Added::Behind(size, 0);
+    }
+    if have[size - 1] < row {
+        return Added::Behind(size, 0);
+    }
+    Added::Elsewhere
+}
+
+// What a row first met at k adds behind the list of step k-1 of U: its columns from some place on.
+pub fn added_columns(
     n: usize,
     k: usize,
     row: usize,
@@ -77,20 +126,13 @@ pub fn added_behind(
     end: SubscriptPlace,
 ) -> Added
     requires { ⌜ JoinsLast (lent n (now starts) (now columns)) n k row ⌝ }
-    requires { ⌜ Contains (planOf (lent n (now starts) (now columns))) (sideOf upper) n (k - 1) (now subs) (now «list_starts») (now slots) × (end .0 ≡ used (planOf (lent n (now starts) (now columns))) (sideOf upper) (k - 1)) ⌝ }
-    ensures { λ r. ⌜ AddedAs r (lent n (now (starts .entry)) (now (columns .entry))) (sideOf upper) k row ⌝ }
+    requires { ⌜ Contains (planOf (lent n (now starts) (now columns))) upper n (k - 1) (now subs) (now «list_starts») (now slots) × (end .0 ≡ used (planOf (lent n (now starts) (now columns))) upper (k - 1)) ⌝ }
+    ensures { λ r. ⌜ AddedAs r (lent n (now (starts .entry)) (now (columns .entry))) upper k row ⌝ }
 {
-    let start = list_starts[k - 2];
-    let count = slots_between(SlotPlace(slots[k - 2]), SlotPlace(slots[k - 1]));
-    if start + count != end.0 {
+    let Last::Members(start, count) = last_list(k, list_starts, slots, end) else {
         return Added::Elsewhere;
-    }
-    let last = list_at(subs, SubscriptPlace(start), count);
-    if upper {
-        let from = starts[row - 1];
-        let to = starts[row];
-        return joined_behind(k, last, &columns[from..to]);
-    }
-    let own = [row];
-    joined_behind(k, last, &own)
+    };
+    let from = starts[row - 1];
+    let to = starts[row];
+    joined_behind(k, list_at(subs, start, count), &columns[from..to])
 }

@@ -4,6 +4,7 @@ mod appended;
 mod writing;
 
 pub use appended::Added;
-pub use appended::added_behind;
+pub use appended::added_columns;
+pub use appended::added_own;
 pub use appended::joins_last;
 pub use writing::write_rest;

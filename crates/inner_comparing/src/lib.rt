@@ -3,4 +3,5 @@ mod kept_lists;
 mod sides;
 
 pub use kept_lists::Verified;
-pub use sides::verify_side;
+pub use sides::verify_lower;
+pub use sides::verify_upper;

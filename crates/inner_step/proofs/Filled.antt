@@ -8,11 +8,14 @@ use lib.Seq.{append-snoc, set-append-seam, drop-at, drop-append-add}
 use Rattle.lists.specs.Functions.{padded}
 use Rattle.lists.specs.Sets.{upto, run}
 use Rattle.lists.proofs.Places.{length-padded, padded-take, padded-nil}
+use Rattle.foundation.specs.Pattern.{Lent}
 use Rattle.foundation.specs.Plan.{Planning, Side}
 use Rattle.foundation.specs.Subscripts.{kept, shared, startAt, addedAt, startsStore}
 use Rattle.foundation.specs.Slots.{slotsOf, slotStarts}
 use Rattle.foundation.proofs.Opening.{store-next, start-next}
 use Rattle.foundation.proofs.Starts.{slots-next, length-slot-starts, slot-start-at, slot-starts-next, length-starts, start-at, starts-next}
+use Rattle.inner_gathering.specs.Ready.{planOf}
+use Rattle.inner_gathering.specs.Steps.{StepOf}
 use Rattle.inner_gathering.specs.Contains.{used, Contains}
 use Rattle.inner_step.specs.Filled.{Filled}
 
@@ -121,3 +124,11 @@ module _ (s : Planning) (side : Side) where
           starts-are = rw size at noted;
           slots-are = rw slot (rw width at ended);
         }
+
+-- at a step the lists of all steps before it can be read
+pub step-contains :
+    {p : Lent} {side : Side} {n k room : ℕ} {subs starts slots : List ℕ} → StepOf p n k → Filled (planOf p) side n (k - 1) room subs starts slots
+    → Contains (planOf p) side n (k - 1) subs starts slots
+step-contains {p} {side} {n} {k} {room} {subs} {starts} {slots} of filled =
+    let high = of .high in
+    filled-contains (planOf p) side n (k - 1) room subs starts slots filled (omega arith)

@@ -18,18 +18,13 @@ use Rattle.inner_gathering.proofs.Turning.{sole-of}
 use Rattle.inner_sharing.specs.Sharing.{SoleReady, soleStart}
 use Rattle.inner_step.specs.Filled.{Filled, BothFilled}
 use Rattle.inner_step.specs.Placing.{Placing}
-use Rattle.inner_step.proofs.Filled.{filled-contains}
+use Rattle.inner_step.proofs.Filled.{step-contains}
 use Rattle.inner_step.proofs.Placing.{sole-ready, used-sole, filled-sole}
 
 -- ---- one side
 
 module _ {p : Lent} {side : Side} {n k row first : ℕ} {rowLinks setLinks subs starts slots : List ℕ} (of : StepOf p n k)
     (chains : ChainsOf p k row rowLinks first setLinks) (filled : Filled (planOf p) side n (k - 1) (length subs) subs starts slots) where
-  side-contains : Contains (planOf p) side n (k - 1) subs starts slots
-  side-contains =
-      let high = of .high in
-      filled-contains (planOf p) side n (k - 1) (length subs) subs starts slots filled (omega arith)
-
   module _ {flipped : Bool} {count : ℕ} {list spare : List ℕ}
       (rows : GrownIn n flipped count list spare (omit k (fromRows (patternOf p) side (planOf p .firstMet k)))) where
     -- with the rows gathered, the steps can be
@@ -37,7 +32,7 @@ module _ {p : Lent} {side : Side} {n k row first : ℕ} {rowLinks setLinks subs 
         (q : Lent) × (q .n ≡ n) × Ready q × (1 ≤ k) × (k ≤ n) × Linked setLinks first (planOf q .S k)
         × Contains (planOf q) side n (k - 1) subs starts slots
         × GrownIn n flipped count list spare (omit k (fromRows (patternOf q) side (planOf q .firstMet k)))
-    steps-ready = (p, of .same-n, of .ready, of .low, of .high, chains .steps, side-contains, rows)
+    steps-ready = (p, of .same-n, of .ready, of .low, of .high, chains .steps, step-contains of filled, rows)
 
     -- and then the kept list is grown
     pub steps-gathered :
@@ -46,7 +41,7 @@ module _ {p : Lent} {side : Side} {n k row first : ℕ} {rowLinks setLinks subs 
         → GrownIn n flipped count list spare (omit k (fromRows (patternOf q) side (planOf q .firstMet k)))
         → GrownIn n flipped′ count′ list′ spare′ (kept (planOf q) side k))
         → GrownIn n flipped′ count′ list′ spare′ (kept (planOf p) side k)
-    steps-gathered h = h p (of .same-n) (of .ready) (chains .steps) side-contains rows
+    steps-gathered h = h p (of .same-n) (of .ready) (chains .steps) (step-contains of filled) rows
 
 -- the list that is grown can be placed
 module _ {p : Lent} {side : Side} {n k : ℕ} {subs starts slots : List ℕ} (of : StepOf p n k)

@@ -18,7 +18,7 @@ use Rattle.inner_appending.specs.Rest.{RestOf, RestWritable, RestWritten}
 use Rattle.inner_appending.proofs.Rest.{rest-length, rest-writable, rest-added, rest-start, rest-used}
 use Rattle.inner_step.specs.Filled.{Filled}
 use Rattle.inner_step.specs.Placing.{PlacedAs}
-use Rattle.inner_step.proofs.Filled.{filled-next, filled-contains, filled-room}
+use Rattle.inner_step.proofs.Filled.{filled-next, filled-room, step-contains}
 
 -- where a list was written and the store kept its length, the list fits
 written-fits :
@@ -31,19 +31,14 @@ written-fits end rest subs subs′ same h e =
 module _ {p : Lent} {side : Side} {n k t : ℕ} {rest subs starts slots : List ℕ} {end : ℕ} (of : StepOf p n k)
     (filled : Filled (planOf p) side n (k - 1) (length subs) subs starts slots) (end-is : end ≡ used (planOf p) side (k - 1))
     (not-sole : soleStep (planOf p) k ≡ 0) (found : RestOf p side k t rest) where
-  placing-contains : Contains (planOf p) side n (k - 1) subs starts slots
-  placing-contains =
-      let high = of .high in
-      filled-contains (planOf p) side n (k - 1) (length subs) subs starts slots filled (omega arith)
-
   -- the rest of the list can be written
   pub placing-writable : RestWritable k t rest subs starts slots end
   placing-writable =
-      rest-writable p (of .ready) side n k t rest subs starts slots end (of .same-n) (of .low) (of .high) placing-contains end-is not-sole found
+      rest-writable p (of .ready) side n k t rest subs starts slots end (of .same-n) (of .low) (of .high) (step-contains of filled) end-is not-sole found
 
   placing-used : used (planOf p) side k ≡ end + length rest
   placing-used =
-      rest-used p (of .ready) side n k t rest subs starts slots end (of .same-n) (of .low) (of .high) placing-contains end-is not-sole found
+      rest-used p (of .ready) side n k t rest subs starts slots end (of .same-n) (of .low) (of .high) (step-contains of filled) end-is not-sole found
 
   -- the stores with it added, its start and the end of its slots noted, are filled with step k too
   placing-filled :
@@ -54,12 +49,12 @@ module _ {p : Lent} {side : Side} {n k t : ℕ} {rest subs starts slots : List �
       let this : suc (k - 1) ≡ k = omega (arith, of .low) in
       let high = of .high in
       let whole : t + length rest ≡ length (kept (planOf p) side k) =
-      rest-length p (of .ready) side n k t rest subs starts slots end (of .same-n) (of .low) (of .high) placing-contains end-is not-sole found in
+      rest-length p (of .ready) side n k t rest subs starts slots end (of .same-n) (of .low) (of .high) (step-contains of filled) end-is not-sole found in
       rw whole
       (rw (this, ← end-is) at
       (filled-next (planOf p) side n (k - 1) (length subs) subs starts slots filled rest (end - t) (omega arith)
-      (rest-added p (of .ready) side n k t rest subs starts slots end (of .same-n) (of .low) (of .high) placing-contains end-is not-sole found)
-      (rest-start p (of .ready) side n k t rest subs starts slots end (of .same-n) (of .low) (of .high) placing-contains end-is not-sole found)
+      (rest-added p (of .ready) side n k t rest subs starts slots end (of .same-n) (of .low) (of .high) (step-contains of filled) end-is not-sole found)
+      (rest-start p (of .ready) side n k t rest subs starts slots end (of .same-n) (of .low) (of .high) (step-contains of filled) end-is not-sole found)
       (rw (← end-is) fits)))
 
   -- the stores are then filled with step k, or the plan does not fit
@@ -70,15 +65,6 @@ module _ {p : Lent} {side : Side} {n k t : ℕ} {rest subs starts slots : List �
       let fits : end + length rest ≤ length subs = written-fits end rest subs subs′ same (placing-writable .end-inside) b in
       (a ∙ sym placing-used, rw (b, c, d) (placing-filled fits))
   placing-placed Short subs′ starts′ slots′ same w = rw placing-used w
-
--- what looking for a row's place behind a list takes for granted
-pub behind-asks :
-    {p : Lent} {side : Side} {n k row room : ℕ} {subs starts slots : List ℕ} {end : ℕ} → JoinsLast p n k row
-    → Filled (planOf p) side n (k - 1) room subs starts slots → end ≡ used (planOf p) side (k - 1)
-    → JoinsLast p n k row × (Contains (planOf p) side n (k - 1) subs starts slots × (end ≡ used (planOf p) side (k - 1)))
-behind-asks {p} {side} {n} {k} {subs = subs} {starts = starts} {slots = slots} j filled end-is =
-    let high = j .step .high in
-    (j, (filled-contains (planOf p) side n (k - 1) _ subs starts slots filled (omega arith), end-is))
 
 -- the room of a store that is filled is its length
 pub own-room :

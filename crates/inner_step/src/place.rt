@@ -3,7 +3,7 @@ ghost use mathlib.Core.Path.{_≡_};
 ghost use Prim.Native.Nat.{_-_, _<_};
 ghost use lib.ListN.{length};
 ghost use Rattle.foundation.specs.Pattern.{Lent, lent};
-ghost use Rattle.foundation.specs.Plan.{Side};
+ghost use Rattle.foundation.specs.Plan.{Side, lower, upper};
 ghost use Rattle.foundation.specs.Subscripts.{soleStep};
 ghost use Rattle.inner_gathering.specs.Ready.{planOf, sideOf};
 ghost use Rattle.inner_gathering.specs.Contains.{used};
@@ -11,7 +11,8 @@ ghost use Rattle.inner_gathering.specs.Steps.{StepOf, ChainsOf};
 ghost use Rattle.inner_step.specs.Placing.{Placing, PlacedAs};
 ghost use Rattle.inner_step.specs.Filled.{Filled};
 use crate::appending::Appended;
-use crate::appending::append_side;
+use crate::appending::append_lower;
+use crate::appending::append_upper;
 use answers::SubscriptPlace;
 use inner_gathering::from_rows;
 use inner_gathering::from_steps;
@@ -83,9 +84,10 @@ fn gather_side(
     place(n, k, &list[0..count], subs, list_starts, slots, end)
 }
 
-// One side of step k: the list of a sole step is shared, what a row adds behind the last list is appended, any other list is gathered.
-pub fn plan_side(
-    upper: bool,
+// One side of step k: the list of a sole step is shared, what a row adds behind the last list is appended, any other list is gathered. A
+// side has a function of its own, which is called at one place: there the compiler puts it, and a call of two dozen words, which would
+// cost more than the short way itself, is spared.
+pub fn plan_lower(
     n: usize,
     k: usize,
     row: usize,
@@ -102,18 +104,17 @@ pub fn plan_side(
     end: SubscriptPlace,
 ) -> Placed
     requires { ⌜ StepOf (lent n (now starts) (now columns)) n k × ChainsOf (lent n (now starts) (now columns)) k row (now «row_links») set (now «set_links») × (set < length (now «set_links»)) ⌝ }
-    requires { ⌜ Filled (planOf (lent n (now starts) (now columns))) (sideOf upper) n (k - 1) (length (now subs)) (now subs) (now «list_starts») (now slots) ⌝ }
-    requires { ⌜ end .0 ≡ used (planOf (lent n (now starts) (now columns))) (sideOf upper) (k - 1) ⌝ }
+    requires { ⌜ Filled (planOf (lent n (now starts) (now columns))) lower n (k - 1) (length (now subs)) (now subs) (now «list_starts») (now slots) ⌝ }
+    requires { ⌜ end .0 ≡ used (planOf (lent n (now starts) (now columns))) lower (k - 1) ⌝ }
     requires { ⌜ (length (now list) ≡ n) × (length (now spare) ≡ n) ⌝ }
-    ensures { λ r. ⌜ PlacedAs r (lent n (now (starts .entry)) (now (columns .entry))) (sideOf upper) n k (length (now (subs .entry))) (now (subs .exit)) (now («list_starts» .exit)) (now (slots .exit)) ⌝ }
+    ensures { λ r. ⌜ PlacedAs r (lent n (now (starts .entry)) (now (columns .entry))) lower n k (length (now (subs .entry))) (now (subs .exit)) (now («list_starts» .exit)) (now (slots .exit)) ⌝ }
 {
     let l = sole_step(row, set, set_links);
     if l != 0 {
         follow_sole(k, l, list_starts, slots, end);
         return Placed::End(end);
     }
-    let short = append_side(
-        upper,
+    let short = append_lower(
         n,
         k,
         row,
@@ -130,7 +131,71 @@ pub fn plan_side(
     match short {
         Appended::Written(placed) => placed,
         Appended::Longer => gather_side(
-            upper,
+            false,
+            n,
+            k,
+            row,
+            row_links,
+            set,
+            set_links,
+            starts,
+            columns,
+            subs,
+            list_starts,
+            slots,
+            list,
+            spare,
+            end,
+        ),
+    }
+}
+
+// The same for U.
+pub fn plan_upper(
+    n: usize,
+    k: usize,
+    row: usize,
+    row_links: &[usize],
+    set: usize,
+    set_links: &[usize],
+    starts: &[usize],
+    columns: &[usize],
+    subs: &mut [usize],
+    list_starts: &mut [usize],
+    slots: &mut [usize],
+    list: &mut [usize],
+    spare: &mut [usize],
+    end: SubscriptPlace,
+) -> Placed
+    requires { ⌜ StepOf (lent n (now starts) (now columns)) n k × ChainsOf (lent n (now starts) (now columns)) k row (now «row_links») set (now «set_links») × (set < length (now «set_links»)) ⌝ }
+    requires { ⌜ Filled (planOf (lent n (now starts) (now columns))) upper n (k - 1) (length (now subs)) (now subs) (now «list_starts») (now slots) ⌝ }
+    requires { ⌜ end .0 ≡ used (planOf (lent n (now starts) (now columns))) upper (k - 1) ⌝ }
+    requires { ⌜ (length (now list) ≡ n) × (length (now spare) ≡ n) ⌝ }
+    ensures { λ r. ⌜ PlacedAs r (lent n (now (starts .entry)) (now (columns .entry))) upper n k (length (now (subs .entry))) (now (subs .exit)) (now («list_starts» .exit)) (now (slots .exit)) ⌝ }
+{
+    let l = sole_step(row, set, set_links);
+    if l != 0 {
+        follow_sole(k, l, list_starts, slots, end);
+        return Placed::End(end);
+    }
+    let short = append_upper(
+        n,
+        k,
+        row,
+        row_links,
+        set,
+        set_links,
+        starts,
+        columns,
+        subs,
+        list_starts,
+        slots,
+        end,
+    );
+    match short {
+        Appended::Written(placed) => placed,
+        Appended::Longer => gather_side(
+            true,
             n,
             k,
             row,

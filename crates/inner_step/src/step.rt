@@ -6,7 +6,8 @@ ghost use Rattle.foundation.specs.Pattern.{lent};
 ghost use Rattle.inner_gathering.specs.Steps.{StepOf, ChainsAt, EndsAre};
 ghost use Rattle.inner_step.specs.Filled.{BothFilled};
 ghost use Rattle.inner_step.specs.Stepping.{TurnedAs};
-use crate::place::plan_side;
+use crate::place::plan_lower;
+use crate::place::plan_upper;
 use answers::SubscriptPlace;
 use inner_gathering::hand_on;
 use inner_gathering::step_total;
@@ -61,8 +62,7 @@ pub fn plan_step(
         l_slots,
         u_slots,
     );
-    let lowers = plan_side(
-        false,
+    let lowers = plan_lower(
         n,
         k,
         row,
@@ -81,8 +81,7 @@ pub fn plan_step(
     let Placed::End(l_next) = lowers else {
         return Turned::LowerFull;
     };
-    let uppers = plan_side(
-        true,
+    let uppers = plan_upper(
         n,
         k,
         row,

@@ -9,7 +9,8 @@ ghost use Rattle.inner_gathering.specs.Steps.{StepOf, ChainsAt, EndsAre};
 ghost use Rattle.inner_verifying.specs.Course.{BothContain, VerifiedStepAs, VerifiedEndAs};
 use answers::SubscriptPlace;
 use inner_comparing::Verified;
-use inner_comparing::verify_side;
+use inner_comparing::verify_lower;
+use inner_comparing::verify_upper;
 use inner_gathering::hand_on;
 use inner_gathering::step_total;
 
@@ -61,8 +62,7 @@ fn verify_step(
         l_slots,
         u_slots,
     );
-    let lowers = verify_side(
-        false,
+    let lowers = verify_lower(
         n,
         k,
         row,
@@ -81,8 +81,7 @@ fn verify_step(
     let Verified::End(l_next) = lowers else {
         return VerifiedStep::Differs;
     };
-    let uppers = verify_side(
-        true,
+    let uppers = verify_upper(
         n,
         k,
         row,

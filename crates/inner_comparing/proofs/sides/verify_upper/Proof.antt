@@ -1,11 +1,11 @@
--- `verify_side` meets its contract: the list of the sole step is shared, or the list is found the short way or the long one.
+-- `verify_upper` meets its contract: the list of the sole step is shared, or the list of U is found the short way or the long one.
 use mathlib.Core.Path.{sym, _∙_}
 use borrow.Author.Needs.{needs}
 use borrow.Author.Tests.{not-true, not-false}
 use Rattle.inner_gathering.proofs.Turning.{sole-of}
 use Rattle.inner_comparing.proofs.Verifying.{heir-ready, heir-differs, heir-agrees}
-use Rattle.inner_comparing.proofs.sides.verify_side.Statement.{statement}
-use Rattle.inner_comparing.proofs.sides.verify_side.Tie as tie
+use Rattle.inner_comparing.proofs.sides.verify_upper.Statement.{statement}
+use Rattle.inner_comparing.proofs.sides.verify_upper.Tie as tie
 
 sole-step-requires : tie.Need-sole-step-requires
 sole-step-requires c κs = search needs
@@ -28,8 +28,8 @@ returns-2 c =
     let is = c .before .before .before .sole-step .ensures ∙ sole-of _ _ chains in
     heir-agrees _ _ _ _ _ _ _ _ _ step contained is (c .before .before .if1 .taken) end-is _ (c .before .heir-stands .ensures) (not-false _ (c .if2 .left))
 
-find-appended-requires : tie.Need-find-appended-requires
-find-appended-requires c κs =
+find-upper-requires : tie.Need-find-upper-requires
+find-upper-requires c κs =
     let pre = c .before .before .before .before .before .before .before .before .before .before .before .pre in
     (pre .0, pre .1 .0)
 
@@ -46,7 +46,7 @@ gather-side-requires c κs =
     ((step, chains), (contained, ((end-is, sym is ∙ c .before .before .before .before .before .if1 .left), sizes)))
 
 returns-3 : tie.Need-returns-3
-returns-3 c = rw (c .before .sought .given .1) at (c .before .before .before .find-appended .ensures)
+returns-3 c = rw (c .before .sought .given .1) at (c .before .before .before .find-upper .ensures)
 
 same-length : tie.Need-same-length
 same-length c = c .before .before .before .before .gather-side .kept .1 .1 .1 .1 .1 .1 .1 .1 .1 .1 .1 .1 .0
@@ -57,15 +57,15 @@ same-length-2 c = c .before .before .before .before .gather-side .kept .1 .1 .1 
 returns-4 : tie.Need-returns-4
 returns-4 c = c .before .before .before .before .gather-side .ensures
 
-pub verify-side-spec : {M : Type 1} → statement M
-verify-side-spec =
+pub verify-upper-spec : {M : Type 1} → statement M
+verify-upper-spec =
     tie.close
     (tie.spec
     sole-step-requires
     heir-stands-requires
     returns
     returns-2
-    find-appended-requires
+    find-upper-requires
     enum-known-sought
     enum-told
     gather-side-requires

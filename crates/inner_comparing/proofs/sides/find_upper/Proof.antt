@@ -1,0 +1,127 @@
+-- `find_upper` meets its contract: the list is that of the step before with the columns that the row adds behind it.
+use native.Mathlib.Omega.{arith}
+use borrow.Author.Needs.{needs}
+use borrow.Author.Tests.{not-false}
+use Rattle.foundation.specs.Pattern.{lent}
+use Rattle.inner_appending.specs.Joining.{JoinsLast}
+use Rattle.inner_appending.proofs.Joining.{row-inside, joins, joins-not-sole, row-of, columns-rest}
+use Rattle.inner_comparing.proofs.Short.{verifying-writable, verified}
+use Rattle.inner_comparing.proofs.sides.find_upper.Statement.{statement}
+use Rattle.inner_comparing.proofs.sides.find_upper.Tie as tie
+
+joins-last-requires : tie.Need-joins-last-requires
+joins-last-requires c κs =
+    let pre = c .before .before .before .before .before .before .before .pre in
+    (row-inside (pre .0 .0) (pre .0 .1), pre .0 .2, pre .0 .0 .low)
+
+returns : tie.Need-returns
+returns c = search needs
+
+-- the function's entry
+abbrev start : tie.Else1 → tie.Start
+start c = c .before .before .before .before .before .before .before .before .before
+
+-- one row joins the list of the step before
+joined :
+    (c : tie.Else1)
+    → JoinsLast (lent (start c .args .n) (start c .args .starts .now) (start c .args .columns .now)) (start c .args .n) (start c .args .k) (start c .args .row)
+joined c = joins (start c .pre .0 .0) (start c .pre .0 .1) (c .before .joins-last .ensures (not-false _ (c .if1 .left)))
+
+added-columns-requires : tie.Need-added-columns-requires
+added-columns-requires c κs = (joined c, start c .pre .1)
+
+enum-known-added : tie.Need-enum-known-added
+enum-known-added c = search needs
+
+enum-told : tie.Need-enum-told
+enum-told c = search needs
+
+returns-2 : tie.Need-returns-2
+returns-2 c = search needs
+
+sub-from : tie.Need-sub-from
+sub-from c =
+    let read = columns-rest (joined (c .before .before .before .before)) (rw (c .before .added .given .1) at (c .before .before .before .added-columns .ensures)) in
+    omega (arith, read)
+
+mul-from : tie.Need-mul-from
+mul-from c =
+    let j = joined (c .before .before .before .before) in
+    omega (arith, row-of j, j .step .ready .few, j .step .same-n)
+
+shared-slice-read-from : tie.Need-shared-slice-read-from
+shared-slice-read-from c =
+    let read = columns-rest (joined (c .before .before .before .before .before)) (rw (c .before .before .added .given .1) at (c .before .before .before .before .added-columns .ensures)) in
+    omega (arith, read)
+
+add-from : tie.Need-add-from
+add-from c =
+    let read = columns-rest (joined (c .before .before .before .before .before)) (rw (c .before .before .added .given .1) at (c .before .before .before .before .added-columns .ensures)) in
+    omega (arith, read)
+
+mul-to : tie.Need-mul-to
+mul-to c =
+    let j = joined (c .before .before .before .before .before) in
+    omega (arith, row-of j, j .step .ready .few, j .step .same-n)
+
+shared-slice-read-to : tie.Need-shared-slice-read-to
+shared-slice-read-to c =
+    let read = columns-rest (joined (c .before .before .before .before .before .before)) (rw (c .before .before .before .added .given .1) at (c .before .before .before .before .before .added-columns .ensures)) in
+    omega (arith, read)
+
+mul-verify-rest : tie.Need-mul-verify-rest
+mul-verify-rest c =
+    let read = columns-rest (joined (c .before .before .before .before .before .before)) (rw (c .before .before .before .added .given .1) at (c .before .before .before .before .before .added-columns .ensures)) in
+    omega (arith, read)
+
+sub-verify-rest : tie.Need-sub-verify-rest
+sub-verify-rest c =
+    let read = columns-rest (joined (c .before .before .before .before .before .before)) (rw (c .before .before .before .added .given .1) at (c .before .before .before .before .before .added-columns .ensures)) in
+    omega (arith, read)
+
+part-verify-rest-start : tie.Need-part-verify-rest-start
+part-verify-rest-start c =
+    let read = columns-rest (joined (c .before .before .before .before .before .before)) (rw (c .before .before .before .added .given .1) at (c .before .before .before .before .before .added-columns .ensures)) in
+    omega (arith, read)
+
+part-verify-rest-end : tie.Need-part-verify-rest-end
+part-verify-rest-end c =
+    let read = columns-rest (joined (c .before .before .before .before .before .before)) (rw (c .before .before .before .added .given .1) at (c .before .before .before .before .before .added-columns .ensures)) in
+    omega (arith, read)
+
+verify-rest-requires : tie.Need-verify-rest-requires
+verify-rest-requires c κs =
+    let s = start (c .before .before .before .before .before .before .before) in
+    let j = joined (c .before .before .before .before .before .before .before) in
+    let read = columns-rest j (rw (c .before .before .before .before .added .given .1) at (c .before .before .before .before .before .before .added-columns .ensures)) in
+    verifying-writable (s .pre .0 .0) (s .pre .1 .0) (s .pre .1 .1) (joins-not-sole j) (read .found)
+
+returns-3 : tie.Need-returns-3
+returns-3 c =
+    let s = start (c .before .before .before .before .before .before .before .before) in
+    let j = joined (c .before .before .before .before .before .before .before .before) in
+    let read = columns-rest j (rw (c .before .before .before .before .before .added .given .1) at (c .before .before .before .before .before .before .before .added-columns .ensures)) in
+    verified (s .pre .0 .0) (s .pre .1 .0) (s .pre .1 .1) (joins-not-sole j) (read .found) (c .verify-rest .result) (c .verify-rest .ensures)
+
+pub find-upper-spec : {M : Type 1} → statement M
+find-upper-spec =
+    tie.close
+    (tie.spec
+    joins-last-requires
+    returns
+    added-columns-requires
+    enum-known-added
+    enum-told
+    returns-2
+    sub-from
+    mul-from
+    shared-slice-read-from
+    add-from
+    mul-to
+    shared-slice-read-to
+    mul-verify-rest
+    sub-verify-rest
+    part-verify-rest-start
+    part-verify-rest-end
+    verify-rest-requires
+    returns-3)
