@@ -6,13 +6,14 @@
 DENSE.PY is the dense program of different authorship that document 01 asks for
 ("other cases are executed and compared"). Every expected number comes from it;
 what is added here is refusal 6, which it does not know, and the layout of the
-lent stores. The files stdin and stdout of the crate are written anew; the seed
-is fixed, so that they come out the same each time.
+lent stores. The files stdin and stdout of the crate are written anew; the seeds
+are fixed, so that they come out the same each time.
 
 A request is words of two bytes, low byte first: most, n, the lengths of the row
 starts, the columns and the stores (STORES below, in that order), then the row
 starts and the columns.
 """
+import collections
 import importlib.util
 import os
 import random
@@ -210,9 +211,30 @@ def planned(cases, rng):
         cases.plan(sparse(rng, 300, more, reach))
 
 
-def ways(cases, rows):
-    """For each step at which one row joins the list of the step before: whether it only adds behind it on both sides ("behind"), or what
-    stands against that: the list of a side does not end its store ("end"), the row lies between ("row"), a column is no member ("column")."""
+Joined = collections.namedtuple("Joined", "step sides")
+
+
+def store_sizes(plan, side):
+    """How long a side's store is after each number of steps."""
+    sizes = [0]
+    for k in range(1, plan.n + 1):
+        sizes.append(max(sizes[-1], side.start[k] + len(side.kept[k])))
+    return sizes
+
+
+def place_in(members, more):
+    """How a second list lies to a first: it adds nothing, adds behind the last member, or adds before the first or between two members too."""
+    if all(x in members for x in more):
+        return "nothing"
+    least = min(x for x in more if x not in members)
+    if least > max(members, default=0):
+        return "behind"
+    return "before" if least < members[0] else "between"
+
+
+def joined(cases, rows):
+    """The steps at which one row joins the list of the step before. For L, then for U: "end" if that list does not end its store, else how
+    the row (L) or its columns (U) lie to it. To L the step's own row adds nothing, any other row adds itself."""
     n = len(rows)
     plan = cases.dense.make_plan(n, {i: r for i, r in enumerate(rows, 1)})
     first_met, steps = ([[] for _ in range(n + 2)] for _ in "rs")
@@ -221,24 +243,79 @@ def ways(cases, rows):
     for k in range(1, n + 1):
         if plan.l_side.kept[k]:
             steps[plan.u_side.kept[k][0]].append(k)
-    found, used = set(), {side: [0] for side in (plan.l_side, plan.u_side)}
-    for k in range(1, n + 1):                           # how long each store is after k steps
-        for side, sizes in used.items():
-            sizes.append(max(sizes[-1], side.start[k] + len(side.kept[k])))
+    used = {side: store_sizes(plan, side) for side in (plan.l_side, plan.u_side)}
+    found = []
     for k in range(2, n + 1):
         if len(first_met[k]) != 1 or steps[k] != [k - 1]:
             continue
         row = first_met[k][0]
-        lasts = {side: [x for x in side.kept[k - 1] if x != k] for side in used}
-        if any(side.start[k - 1] + len(side.kept[k - 1]) != sizes[k - 1] for side, sizes in used.items()):
+        sides = []
+        for side, more in ((plan.l_side, [row]), (plan.u_side, rows[row - 1])):
+            if side.start[k - 1] + len(side.kept[k - 1]) != used[side][k - 1]:
+                sides.append("end")
+            else:
+                sides.append(place_in([x for x in side.kept[k - 1] if x != k], [x for x in more if x != k]))
+        found.append(Joined(k, tuple(sides)))
+    return found
+
+
+def ways(cases, rows):
+    """For each step at which one row joins the list of the step before: whether it only adds behind it on both sides ("behind"), or what
+    stands against that: the list of a side does not end its store ("end"), the row lies between ("row"), a column is no member ("column")."""
+    found = set()
+    for _, (lower, upper) in joined(cases, rows):
+        if "end" in (lower, upper):
             found.add("end")
-        elif row != k and any(x > row for x in lasts[plan.l_side]):
+        elif lower in ("before", "between"):
             found.add("row")
-        elif any(x != k and x < max(lasts[plan.u_side], default=0) and x not in lasts[plan.u_side] for x in rows[row - 1]):
+        elif upper in ("before", "between"):
             found.add("column")
         else:
             found.add("behind")
     return found
+
+
+def may_miss_end(n, bits):
+    """Whether `ways` can find "end" for rows that are given as bits. A list that does not end its store was shared with a sole step other
+    than the one just before it, or with such a list. Few patterns have that, and `ways` takes ten times as long."""
+    first_met = [0] * (n + 2)
+    lower, upper, sets = [0] * (n + 2), [0] * (n + 2), [[] for _ in range(n + 2)]
+    for i, row in enumerate(bits, 1):
+        k = (row & -row).bit_length() - 1
+        first_met[k] += 1
+        lower[k] |= 1 << i
+        upper[k] |= row
+    apart = [False] * (n + 2)
+    for k in range(1, n + 1):
+        above = -1 << k
+        for l in sets[k]:
+            lower[k] |= lower[l] & above
+            upper[k] |= upper[l] & above
+        if len(sets[k]) == 1:
+            l = sets[k][0]
+            if first_met[k] == 0:
+                apart[k] = l != k - 1 or apart[l]
+            elif first_met[k] == 1 and l == k - 1 and apart[l]:
+                return True
+        if lower[k] & (lower[k] - 1):
+            rest = upper[k] & (-2 << k)
+            sets[(rest & -rest).bit_length() - 1].append(k)
+    return False
+
+
+def near_strip(rng):
+    """A random strip around the diagonal with up to four places changed: how many rows, and each row as bits."""
+    n = rng.randint(4, 30)
+    bits = []
+    for i in range(1, n + 1):
+        low, high = max(1, i - rng.randint(0, 3)), min(n, i + rng.randint(0, 4))
+        bits.append((2 << high) - (1 << low))
+    for _ in range(rng.randint(0, 4)):
+        i = rng.randint(1, n)
+        j = rng.randint(1, n)
+        if i != j:
+            bits[i - 1] ^= 1 << j
+    return n, bits
 
 
 def short_ways(cases, rng):
@@ -250,18 +327,178 @@ def short_ways(cases, rng):
         for n in (2, 3, 9, 30):
             cases.plan(shape(n, lambda i, j: abs(i - j) <= reach))
     while min(count.values()) < 30:
-        n = rng.randint(4, 30)
-        rows = [set(range(max(1, i - rng.randint(0, 3)), min(n, i + rng.randint(0, 4)) + 1)) for i in range(1, n + 1)]
-        for _ in range(rng.randint(0, 4)):
-            i = rng.randint(1, n)
-            rows[i - 1] ^= {rng.randint(1, n)} - {i}
-        rows = [sorted(row) for row in rows]
+        n, bits = near_strip(rng)
+        if all(count[way] >= 30 for way in ("behind", "row", "column")) and not may_miss_end(n, bits):
+            continue
+        rows = [[j for j in range(1, n + 1) if row >> j & 1] for row in bits]
         found = ways(cases, rows)
         if any(count[way] < 30 for way in found):
             for way in found:
                 count[way] += 1
             cases.plan(rows, rng.choice((0, 0, 1)), rng.choice((0, 0, 2)))
             cases.plan(rows, rng.choice((0, -1)), rng.choice((0, -1)))
+    return count
+
+
+def lying(rng, n, step, i, have, kind):
+    """Row i, first met at the step, so that it lies to the list `have` as `kind` says; none if its diagonal stands against that."""
+    inside = i == step or i in have
+    some = [x for x in have if rng.random() < 0.4]
+    first, last = have[0], have[-1]
+    if kind == "behind":
+        if last == n or not (inside or i > last):
+            return None
+        return sorted({step, i, rng.randint(last + 1, n), *some})
+    if not inside:
+        return None
+    if kind == "inside":
+        return sorted({step, i, *some})
+    if kind == "equal":
+        return [step] + have
+    if kind == "beginning":
+        least = have.index(i) + 1 if i in have else 0
+        return [step] + have[:rng.randrange(least, len(have))] if least < len(have) else None
+    gaps = [x for x in (range(step + 1, first) if kind == "before" else range(first, last)) if x not in have]
+    return sorted({step, i, rng.choice(gaps), *some}) if gaps else None
+
+
+def together(rng, n, step, kinds, handed):
+    """Many rows first met at one step, that of the step first. Each next one lies to the list so far as the next of `kinds` says; the others
+    are first met at their own step. If `handed`, earlier steps hand lists on to this one."""
+    rows = [[i] if rng.random() < 0.6 else sorted({i, rng.randint(i, n)}) for i in range(1, n + 1)]
+    open_rows = n
+    for l in range(1, step if handed else 1):
+        rows[l - 1] = sorted({l, step, rng.randint(step, n)})
+        rows[open_rows - 1] = sorted({l, step, open_rows})
+        open_rows -= 1
+    have = [x for x in range(step + 1, n + 1) if min(step + 3, n - 1) <= x <= n - n // 4 and rng.random() < 0.6] or [n]
+    rows[step - 1] = [step] + have
+    turn = 0
+    for i in range(step + 1, open_rows + 1):
+        row = lying(rng, n, step, i, have, kinds[turn % len(kinds)])
+        if row is not None:
+            rows[i - 1] = row
+            have = sorted({*have, *row} - {step})
+            turn += 1
+    return rows
+
+
+def short_at(cases, rows, step):
+    """Rooms that end with one step: exactly enough for it, and one short for a side to which it adds."""
+    n = len(rows)
+    starts, columns = flat(rows)
+    plan = cases.dense.make_plan(n, {i: r for i, r in enumerate(rows, 1)})
+    lower, upper = store_sizes(plan, plan.l_side), store_sizes(plan, plan.u_side)
+    cases.raw(1024, n, starts, columns, lower[step], upper[step])
+    if lower[step - 1] < lower[step]:
+        assert cases.raw(1024, n, starts, columns, lower[step] - 1, upper[n]) == f"refused 7 {step}"
+    if upper[step - 1] < upper[step]:
+        assert cases.raw(1024, n, starts, columns, lower[n], upper[step] - 1) == f"refused 8 {step}"
+
+
+def met_together(cases, rng):
+    """Rows first met at one step: lists that grow in place, by merges from one store into the other, and by both in turn."""
+    before = cases.count
+    kinds = ["inside", "equal", "beginning", "behind", "between", "before"]
+    orders = [[kind] for kind in kinds] + [["between", kind] for kind in kinds if kind != "between"]
+    orders += [["before", "inside"], ["before", "before", "behind"], ["between", "between", "behind", "equal"],
+               ["behind", "between", "behind", "between"], ["between", "inside", "before", "beginning", "equal"]]
+    for n in (6, 11, 23, 40):
+        for number, order in enumerate(orders):
+            step = (1, 1, 2, 3)[(number + n) % 4]
+            rows = together(rng, n, step, order, handed=number % 2 == 1)
+            cases.plan(rows)
+            short_at(cases, rows, step)
+    for n in (2, 3, 7, 30):
+        for _ in range(4):
+            step = rng.randint(1, max(1, n // 4))
+            rows = together(rng, n, step, [rng.choice(kinds) for _ in range(n)], handed=rng.random() < 0.5)
+            cases.plan(rows, rng.choice((0, 1)), rng.choice((0, 2)))
+            short_at(cases, rows, step)
+    for n in (2, 5, 17, 38):
+        arrow = shape(n, lambda i, j: 1 in (i, j))
+        tailed = shape(n, lambda i, j: 1 in (i, j) or i - j == 1)
+        bordered = shape(n, lambda i, j: (i - 1) // 4 == (j - 1) // 4 or n in (i, j) or j == 1)
+        stacked = shape(n, lambda i, j: (i - 1) // 4 in ((j - 1) // 4, (j - 1) // 4 + 1))
+        for rows in (arrow, tailed, bordered, stacked):
+            cases.plan(rows)
+            short_at(cases, rows, 1)
+    for n in (300, 1024):
+        cases.plan(shape(n, lambda i, j: 1 in (i, j)))
+    for number, order in enumerate((kinds, ["between", "behind"], ["before", "inside", "between"])):
+        cases.plan(together(rng, 128, 1 + number, order, handed=number > 0))
+    return cases.count - before
+
+
+def strip_with_steps_between(rng):
+    """A strip of random rows, some of which begin late: steps without a row of their own follow others, and rows lie anywhere to the lists."""
+    n = rng.randint(5, 16)
+    rows = []
+    for i in range(1, n + 1):
+        row = {i, max(1, i - rng.choice((0, 1, 2, 3, 4, 5)))}
+        row |= {j for j in range(min(row), min(n, i + 5) + 1) if rng.random() < 0.35}
+        rows.append(sorted(row))
+    return rows
+
+
+def shared_with_earlier(rng):
+    """Step k-1 follows step 1 without a row of its own, and steps between the two add to a store or to both; one row is first met at k."""
+    k = rng.randint(4, 7)
+    n = k + rng.randint(2, 8)
+    rows = [{i} for i in range(1, n + 1)]
+    later = range(k, n + 1)
+    rows[0] |= {k - 1, k, *rng.sample(later, rng.randint(1, 2))}
+    rows[k - 2] |= {1}
+    free = list(later)
+    rng.shuffle(free)
+    for _ in range(rng.randint(1, 3)):
+        if len(free) > 2:
+            rows[free.pop() - 1] |= {1, k}
+    row = free.pop()
+    rows[row - 1] |= {k, *rng.sample(later, rng.randint(0, 2))}
+    for j in range(2, k - 1):
+        if rng.random() < 0.6:
+            rows[j - 1].add(rng.randint(k + 1, n))
+        if free and rng.random() < 0.5:
+            rows[free.pop() - 1] |= {j, rng.randint(k + 1, n)}
+    for i in later:                                     # no other row is first met at k-1 or k
+        if min(rows[i - 1]) >= k - 1 and i != row:
+            rows[i - 1] = {x for x in rows[i - 1] if x > k} | {i}
+    return [sorted(x) for x in rows]
+
+
+def joining(rng):
+    """Some rows are first met at step k-1, and one at k that may lie anywhere to them; no other row has a column up to k."""
+    k = rng.randint(2, 4)
+    n = k + rng.randint(1, 8)
+    later = range(k + 1, n + 1)
+    rows = [{i} for i in range(1, n + 1)]
+    wide = set(rng.sample(later, rng.randint(0, len(later))))
+    rows[k - 2] |= {k} | wide
+    single = k if rng.random() < 0.4 else rng.choice(later)
+    for i in range(k, n + 1):
+        if i == single:
+            rows[i - 1] |= {k} | {x for x in later if rng.random() < 0.3}
+        elif i == k or rng.random() < 0.5:
+            rows[i - 1] |= {k - 1} | {x for x in wide if rng.random() < 0.3}
+    return [sorted(row) for row in rows]
+
+
+def side_by_side(cases, rng):
+    """Patterns at which one row joins the list of the step before, for every pair of what it is to L and to U: with enough room, and with
+    rooms that end at that step."""
+    places = ("nothing", "behind", "before", "between", "end")
+    count = {(lower, upper): 0 for lower in places for upper in places}
+    while min(count.values()) < 5:
+        for make in (strip_with_steps_between, shared_with_earlier, joining):
+            rows = make(rng)
+            found = joined(cases, rows)
+            if any(count[step.sides] < 5 for step in found):
+                cases.plan(rows)
+            for step in found:
+                if count[step.sides] < 5:
+                    count[step.sides] += 1
+                    short_at(cases, rows, step.step)
     return count
 
 
@@ -429,6 +666,9 @@ def main():
     refused_7_and_8(cases, rng)
     orders(cases, rng)
     short = short_ways(cases, rng)
+    rng = random.Random(8444)                           # a seed of their own, so that the requests above can stay as they are
+    many = met_together(cases, rng)
+    sides = side_by_side(cases, rng)
     assert all(cases.answers.get(number, 0) >= 10 for number in range(9)), cases.answers
     # the last request asks for more columns than the program has: it ends the program
     cases.words += [1024, 1, 2, 16401] + [1] * 12
@@ -438,7 +678,9 @@ def main():
         file.write(struct.pack(f"<{len(cases.words)}H", *cases.words))
     with open(os.path.join(folder, "stdout"), "w") as file:
         file.write("\n".join(cases.lines) + "\n")
-    print(f"{cases.count} cases; rows that join the list before: {short}; answers by number (0: planned) {dict(sorted(cases.answers.items()))}; "
+    print(f"{cases.count} cases; rows that join the list before: {short}; on rows met together: {many}; "
+          f"{len(sides)} pairs of what a row is to L and to U, each at {min(sides.values())} steps; "
+          f"answers by number (0: planned) {dict(sorted(cases.answers.items()))}; "
           f"7 at steps {sorted(cases.steps[7])}, 8 at steps {sorted(cases.steps[8])}")
 
 
