@@ -6,7 +6,7 @@
 DENSE_FOLDER holds the dense program of different authorship that document 01 asks for
 ("other cases are executed and compared"): dense.py, and calls.py, which knows whole calls.
 Every expected answer and every place of every store comes from it. The files stdin and
-stdout of the crate are written anew; the seed is fixed, so that they come out the same.
+stdout of the crate are written anew; the seeds are fixed, so that they come out the same.
 
 A request: HEAD words of four bytes, then the lists of LISTS, numbers in two bytes, values
 and right side as the eight bytes of an f64; all low byte first.
@@ -16,6 +16,8 @@ import os
 import random
 import struct
 import sys
+
+from planning_cases import joined, joining, shared_with_earlier, strip_with_steps_between, together
 
 HEAD = ["most", "n", "starts", "columns",
         "count_n", "count_entries", "count_l_subs", "count_u_subs", "count_l_slots", "count_u_slots", "count_reads",
@@ -277,6 +279,102 @@ def add_large(cases, rng):
     cases.run(shape(1025, lambda i, j: False), numbers(rng, 1025, "plain"), numbers(rng, 1025, "plain"))
 
 
+# ------------------------------------------------------- the ways of a step's two sides
+
+PLACES = ("nothing", "behind", "before", "between", "end")      # what `joined` says of a side
+CHANGED = ("start", "subscript", "slot start")
+TIMES = 3                                                       # how often each pair of places is to occur
+
+
+def list_to_follow(cases, rng, rows):
+    """A row list with which a run finishes, other than the one by the largest entry: that of other values on the same pattern."""
+    n = len(rows)
+    values, right = numbers(rng, entries(rows), "plain"), numbers(rng, n, "plain")
+    return cases.dense.run_square(n, {i: r for i, r in enumerate(rows, 1)}, values, right)[2]
+
+
+def move(numbers, at, change):
+    """Raises or lowers one number by 1; nothing is below zero, so that a zero is raised."""
+    numbers[at] += change if numbers[at] + change >= 0 else -change
+
+
+def own_subscripts(starts, slots, step):
+    """The places of the subscripts that a step adds to its side's store. Where it adds none: those of its list, or all before it."""
+    ends = [starts[k] + slots[k + 1] - slots[k] for k in range(step)]
+    used, first, last = max(ends[:-1], default=0), starts[step - 1], ends[-1]
+    return range(max(used, first), last) or range(first, last) or range(used)
+
+
+def change_store(rng, kind, letter, step, change):
+    """Changes one number of one side that a step is held to. Of the slot starts that is the one behind its own: the step before is held to its own."""
+    def bend(counts, stores):
+        subs, starts, slots = (stores[letter + name] for name in ("_subs", "_starts", "_slots"))
+        if kind == "start":
+            move(starts, step - 1, change)
+        elif kind == "subscript":
+            move(subs, rng.choice(own_subscripts(starts, slots, step)), change)
+        else:
+            move(slots, step, change)
+    return bend
+
+
+def change_count(at, change):
+    def bend(counts, stores):
+        move(counts, at, change)
+    return bend
+
+
+def agreed_with(cases, rng, rows, step, turn):
+    """A pattern's own plan, and a run: by the largest entry or by a list, whole or cut (before the step, behind it, at n), in turn."""
+    listed = list_to_follow(cases, rng, rows) if turn % 2 else None
+    cut = rng.choice((step - 1, step, len(rows))) if turn % 4 > 1 else None
+    values, right = numbers(rng, entries(rows), "plain"), numbers(rng, len(rows), "plain")
+    assert cases.run(rows, values, right, listed, cut)[0] == "granted"
+
+
+def changed_at(cases, rng, rows, step, side, sign, count):
+    """The plan with one number changed at the step: one of each kind, L and U and raised and lowered in turn (`side` and `sign` say what is
+    first), and one of the counts."""
+    values, right = numbers(rng, entries(rows), "plain"), numbers(rng, len(rows), "plain")
+    bends = [change_count(count % 7, (-1, 1)[sign % 2])]
+    for at, kind in enumerate(CHANGED):
+        bends.append(change_store(rng, kind, "lu"[(side + at) % 2], step, (-1, 1)[(sign + at) % 2]))
+    for bend in bends:
+        assert cases.run(rows, values, right, bend=bend) == ("refused", 9, 0)
+
+
+def add_joined(cases, rng):
+    """Patterns at which one row joins the list of the step before, for every pair of what it is to L and to U: each side goes its own way."""
+    pairs = [(lower, upper) for lower in PLACES for upper in PLACES]
+    count, turn = {pair: 0 for pair in pairs}, 0
+    while min(count.values()) < TIMES:
+        for make in (strip_with_steps_between, shared_with_earlier, joining):
+            rows = make(rng)
+            wanted = [found for found in joined(cases, rows) if count[found.sides] < TIMES]
+            if wanted:
+                agreed_with(cases, rng, rows, wanted[0].step, turn)
+                turn += 1
+            for found in wanted:
+                # a pair's first two times have every kind on both sides, its third time has another sign
+                order, time = pairs.index(found.sides), count[found.sides]
+                changed_at(cases, rng, rows, found.step, order // 2 + time, order + time // 2, order + time)
+                count[found.sides] += 1
+    return count
+
+
+def add_together(cases, rng):
+    """Many rows first met at one step: neither side goes the short way there."""
+    kinds = ["inside", "equal", "beginning", "behind", "between", "before"]
+    orders = [[kind] for kind in kinds] + [["between", kind] for kind in kinds if kind != "between"] + [kinds]
+    for number, order in enumerate(orders):
+        step = 1 + number % 3
+        rows = []
+        while sum(row[0] == step for row in rows) < 3:          # some drawn lists have no room for what `order` asks
+            rows = together(rng, 11 + number % 6, step, order, handed=number % 2 == 1)
+        agreed_with(cases, rng, rows, step, number)
+        changed_at(cases, rng, rows, step, number // 2, number, number)
+
+
 def main():
     if len(sys.argv) != 2:
         raise SystemExit(__doc__)
@@ -288,13 +386,17 @@ def main():
     add_refused(cases, rng)
     add_random(cases, rng)
     add_large(cases, rng)
+    rng = random.Random(19841985)       # a seed of their own, so that the requests above can stay as they are
+    sides = add_joined(cases, rng)
+    add_together(cases, rng)
     crate = os.path.join(os.path.dirname(os.path.abspath(__file__)), "..", "crates", "elimination_cases")
     with open(os.path.join(crate, "stdin"), "wb") as file:
         file.write(cases.bytes)
     with open(os.path.join(crate, "stdout"), "w", encoding="ascii") as file:
         file.write("\n".join(cases.lines) + "\n")
     print(f"{cases.count} requests; finished {cases.finished}; refused {dict(sorted(cases.answers.items()))}; "
-          f"steps of 13 {sorted(cases.steps[13])}, of 14 {sorted(cases.steps[14])}")
+          f"steps of 13 {sorted(cases.steps[13])}, of 14 {sorted(cases.steps[14])}; "
+          f"{len(sides)} pairs of what a row is to L and to U, each at {min(sides.values())} steps")
 
 
 if __name__ == "__main__":
