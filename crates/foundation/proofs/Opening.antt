@@ -11,7 +11,7 @@ use lib.Seq.{take-all, take-length, drop-length, take-append-le, take-append-sea
 use borrow.Author.Tests.{eqb-true, ltb-true}
 use Rattle.lists.specs.Functions.{empty}
 use Rattle.lists.specs.Sets.{overlap}
-use Rattle.lists.proofs.Members.{by-test}
+use Rattle.lists.proofs.Members.{by-test, empty-nil}
 use Rattle.lists.proofs.Overlap.{overlap-left, overlap-right, overlap-same}
 use Rattle.lists.proofs.Places.{update-same, update-other}
 use Rattle.foundation.specs.Plan.{Planning, Side}
@@ -107,11 +107,6 @@ shared-end-law sh previous last new h =
     (λ e. rw e (joins-none (sh .store) new))
 
 -- ---- a step
-
-empty-nil : (xs : List ℕ) → empty xs ≡ true → xs ≡ []
-unfolding empty
-empty-nil [] e = refl
-empty-nil (x ∷ xs) e = cc
 
 module _ (s : Planning) (side : Side) where
   -- the store after a step is the store before it and what the step adds

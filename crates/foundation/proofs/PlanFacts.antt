@@ -9,7 +9,7 @@ use lib.Dec.{eqb, leb}
 use borrow.Author.Tests.{eqb-true, eqb-false, ne-eqb, not-true, leb-true, le-leb}
 use Rattle.lists.specs.Functions.{keep, empty}
 use Rattle.lists.specs.Sets.{member, Ascending, joinAll, from, leastAbove}
-use Rattle.lists.proofs.Members.{by-test, and-left, and-right, member-head, member-tail, member-cases, kept-in, kept-passes, in-keep, union-nil-left}
+use Rattle.lists.proofs.Members.{by-test, and-left, and-right, member-head, member-tail, member-cases, kept-in, kept-passes, in-keep, union-nil-left, empty-nil}
 use Rattle.lists.proofs.Order.{member-low, ascending-raise, ascending-keep, same-members-by}
 use Rattle.lists.proofs.Least.{least-member, least-above}
 use Rattle.foundation.specs.Pattern.{Pattern, present}
@@ -35,11 +35,6 @@ pub record FactsAfter (p : Pattern) (m : ℕ) (s : Planning) : Type 0 where
   pub sole : (side : Side) (k : ℕ) → 1 ≤ k → k ≤ m → 0 < soleStep s k → (soleStep s k < k) × (kept s side (soleStep s k) ≡ k ∷ kept s side k)
 
 -- ---- sole steps
-
-empty-nil : (xs : List ℕ) → empty xs ≡ true → xs ≡ []
-unfolding empty
-empty-nil [] e = refl
-empty-nil (x ∷ xs) e = absurd (false≢true e)
 
 only-one : (xs : List ℕ) → 0 < only xs → xs ≡ only xs ∷ []
 unfolding only

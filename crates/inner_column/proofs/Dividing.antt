@@ -11,11 +11,10 @@ use lib.ListN.{length, getD, take, drop, set, length-set}
 use lib.Seq.{take-suc, take-all, take-suc-set, drop-set-lt, drop-drop, getD-drop}
 use borrow.Author.Tests.{not-true, not-false}
 use Rattle.lists.specs.Functions.{all}
-use Rattle.lists.proofs.Members.{by-test}
+use Rattle.lists.proofs.Members.{by-test, all-snoc}
 use Rattle.foundation.specs.Numbers.{plusZero, isZero, finite, quotient}
 use Rattle.inner_slots.specs.Flags.{flagged, nonzeros}
 use Rattle.inner_slots.proofs.Flags.{flagged-more}
-use Rattle.inner_slots.proofs.Mapped.{all-snoc}
 use Rattle.inner_column.specs.Column.{overPivot}
 
 -- ---- counting

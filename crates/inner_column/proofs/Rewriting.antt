@@ -11,7 +11,7 @@ use lib.ListN.{length, getD, take, set}
 use lib.Seq.{take-suc, take-all}
 use Rattle.lists.specs.Functions.{all}
 use Rattle.lists.specs.Sets.{member, upto, Ascending}
-use Rattle.lists.proofs.Members.{by-test, fails, not-member-nil}
+use Rattle.lists.proofs.Members.{by-test, fails, not-member-nil, all-snoc}
 use Rattle.lists.proofs.Order.{member-low, ascending-upto}
 use Rattle.lists.proofs.Places.{member-at, length-upto, getD-run, getD-map-run}
 use Rattle.foundation.specs.Numbers.{plusZero, isZero, finite, product, difference}
@@ -43,11 +43,6 @@ pub row-set : (f g : ℕ → Float) (n i : ℕ) (v : Float) → 1 ≤ i → i �
 row-set f g n i v low high here others =
     let at = upto-place n i low high in
     set-map 1 f g (upto n) (i - 1) v (ascending-upto n) (omega (arith, length-upto n)) (ap g at ∙ here) (λ j m ne. others j (λ e. ne (e ∙ sym at)))
-
-all-snoc : (t : ℕ → Bool) (xs : List ℕ) (x : ℕ) → all t (xs ++ x ∷ []) ≡ all t xs && t x
-unfolding all
-all-snoc t [] x = by-test (t x) (λ e. rw e) (λ e. rw e)
-all-snoc t (y ∷ xs) x = by-test (t y) (λ e. rw e (all-snoc t xs x)) (λ e. rw e)
 
 -- ---- the loop
 

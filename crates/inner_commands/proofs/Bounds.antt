@@ -1,6 +1,6 @@
 -- Reading that goes on takes a byte and keeps to its bounds.
 use mathlib.Core.Path.{_≡_}
-use mathlib.Core.Bool.{Bool, true, false}
+use mathlib.Core.Bool.{Bool, true, false, false≢true}
 use mathlib.Core.List.{List}
 use Prim.Native.Nat.{ℕ, _+_, _≤_, _<_}
 use native.Mathlib.Omega.{arith}
@@ -9,9 +9,6 @@ use Rattle.inner_commands.specs.declared.Progress.{Progress}
 use Rattle.inner_commands.specs.declared.Turn.the-variants.{More}
 use Rattle.inner_commands.specs.Progress.{Within, Onward}
 
-pub false-true : _≡_ {A = Bool} false true → ⊥
-false-true e = let z : _≡_ {A = ℕ} 0 1 = cc in omega arith
-
 module _ (job : List ℕ) (p : Progress) (within : Within (length job) p) where
   -- N
   pub n-onward : p .n ≡ 0 → (n : ℕ) → n ≤ 128 → p .at + 3 ≤ length job
@@ -19,7 +16,7 @@ module _ (job : List ℕ) (p : Progress) (within : Within (length job) p) where
   unfolding Onward
   n-onward z n small h =
       let s = within .sound in
-      (omega arith, record { here = h; small = small; rows-left = omega arith; picked = omega arith; bytes-used = omega arith; row-left = λ f. absurd (false-true f) })
+      (omega arith, record { here = h; small = small; rows-left = omega arith; picked = omega arith; bytes-used = omega arith; row-left = λ f. absurd (false≢true f) })
 
   -- R
   pub r-onward : p .closed < p .n → p .at + 3 ≤ length job
@@ -43,7 +40,7 @@ module _ (job : List ℕ) (p : Progress) (within : Within (length job) p) where
   unfolding Onward
   b-onward k h =
       let s = within .sound in
-      (omega arith, record { here = h; small = s .small; rows-left = omega arith; picked = s .picked; bytes-used = omega arith; row-left = λ f. absurd (false-true f) })
+      (omega arith, record { here = h; small = s .small; rows-left = omega arith; picked = s .picked; bytes-used = omega arith; row-left = λ f. absurd (false≢true f) })
 
   -- P
   pub p-onward : p .chosen < p .n → p .at + 3 ≤ length job
@@ -51,4 +48,4 @@ module _ (job : List ℕ) (p : Progress) (within : Within (length job) p) where
   unfolding Onward
   p-onward k h =
       let s = within .sound in
-      (omega arith, record { here = h; small = s .small; rows-left = s .rows-left; picked = omega arith; bytes-used = omega arith; row-left = λ f. absurd (false-true f) })
+      (omega arith, record { here = h; small = s .small; rows-left = s .rows-left; picked = omega arith; bytes-used = omega arith; row-left = λ f. absurd (false≢true f) })

@@ -9,7 +9,7 @@ use lib.ListN.{length}
 use borrow.Author.Tests.{le-ltb}
 use Rattle.lists.specs.Functions.{all}
 use Rattle.lists.specs.Sets.{member}
-use Rattle.lists.proofs.Members.{by-test, and-left, and-right, and-both}
+use Rattle.lists.proofs.Members.{by-test, and-left, and-right, and-both, all-snoc}
 use Rattle.foundation.specs.Answer.{Answer, refused, granted, refuseIf, andThen}
 use Rattle.foundation.specs.Pattern.{Lent, patternOf, rowOf, tooLarge, startsFit, entriesFault, firstFault, rowFault, rowsFault, patternFault, judged}
 use Rattle.foundation.specs.Plan.{Planning, plan}
@@ -85,11 +85,6 @@ gate-resized (Refused (UpperRoom k)) sized h = absurd (true≢false h)
 gate-resized (Refused OtherPlan) true h = refl
 gate-resized (Refused OtherPlan) false h = refl
 
-all-more : (t : ℕ → Bool) (xs : List ℕ) (x : ℕ) → all t (xs ++ x ∷ []) ≡ all t xs && t x
-unfolding all
-all-more t [] x = by-test (t x) (λ e. rw e) (λ e. rw e)
-all-more t (y ∷ xs) x = by-test (t y) (λ e. rw e (all-more t xs x)) (λ e. rw e)
-
 -- two more work stores: their lengths are two more tests of 6
 and-out : (a b c d e f g : Bool) → a && (b && ((c && f) && ((d && g) && e))) ≡ (a && (b && (c && (d && e)))) && (f && g)
 and-out false b c d e f g = refl
@@ -104,7 +99,7 @@ module _ (most : ℕ) (p : Lent) (q : LentPlan) (work : WorkSizes) where
   pub sizes-more : (copy dense : ℕ) → sizesFit p (q .stores) (withFloats work copy dense) ≡ sizesFit p (q .stores) work && floatsFit (p .n) copy dense
   unfolding sizesFit workFits floatsFit
   sizes-more copy dense =
-      rw (all-more (eqb (p .n)) (work .ofN) copy, all-more (eqb (suc (p .n))) (work .ofNPlusOne) dense)
+      rw (all-snoc (eqb (p .n)) (work .ofN) copy, all-snoc (eqb (suc (p .n))) (work .ofNPlusOne) dense)
       (and-out (startsSized p (q .stores .lowerSide)) (startsSized p (q .stores .upperSide)) (all (eqb (p .n)) (work .ofN)) (all (eqb (suc (p .n))) (work .ofNPlusOne)) _ (eqb (p .n) copy) (eqb (suc (p .n)) dense))
 
   -- 7 and 8 are no answers about a lent plan

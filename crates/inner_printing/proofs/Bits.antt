@@ -1,15 +1,12 @@
 -- The bits of a number: only a NaN differs from itself.
 use mathlib.Core.Path.{_≡_, refl, sym, _∙_}
-use mathlib.Core.Bool.{Bool, true, false, not, Bool·beq}
+use mathlib.Core.Bool.{Bool, true, false, not, Bool·beq, false≢true}
 use Prim.Native.Nat.{ℕ, _*_}
 use native.Mathlib.Omega.{arith}
 use lib.Dec.{T}
 use lib.Ieee.{Float, nan, inf, fin, isNan, toBits, eq, level, up, down}
 use borrow.Author.Tests.{eq-eqb}
 use Rattle.foundation.specs.Numbers.{bitsOf}
-
-false-true : _≡_ {A = Bool} false true → ⊥
-false-true e = let z : _≡_ {A = ℕ} 0 1 = cc in omega arith
 
 beq-self : (s : Bool) → Bool·beq s s ≡ true
 beq-self true = refl
@@ -21,7 +18,7 @@ level-self s m = rw (eq-eqb m m refl, beq-self s)
 -- what equals itself is no NaN
 pub self-number : (x : Float) → eq x x ≡ true → T (not (isNan x))
 unfolding eq isNan
-self-number nan e = absurd (false-true e)
+self-number nan e = absurd (false≢true e)
 self-number (inf s) e = tt
 self-number (fin s m k) e = tt
 
@@ -29,5 +26,5 @@ self-number (fin s m k) e = tt
 pub other-nan : (x : Float) → eq x x ≡ false → 0x7ff8_0000_0000_0000 ≡ bitsOf x
 unfolding eq bitsOf toBits
 other-nan nan e = refl
-other-nan (inf s) e = absurd (false-true (sym e ∙ beq-self s))
-other-nan (fin s m k) e = absurd (false-true (sym e ∙ level-self s (m * up k * down k)))
+other-nan (inf s) e = absurd (false≢true (sym e ∙ beq-self s))
+other-nan (fin s m k) e = absurd (false≢true (sym e ∙ level-self s (m * up k * down k)))

@@ -1,6 +1,6 @@
 -- Command after command: reading what is left gives the answer of the whole job.
 use mathlib.Core.Path.{_≡_, refl, ap, sym, _∙_}
-use mathlib.Core.Bool.{false}
+use mathlib.Core.Bool.{false, false≢true}
 use mathlib.Core.List.{List}
 use Prim.Native.Nat.{ℕ, suc, _+_, _-_, _≤_, _<_}
 use native.Mathlib.Omega.{arith}
@@ -17,7 +17,6 @@ use Rattle.inner_reading.specs.Read.{jobIn, readOf, Bounded}
 use Rattle.inner_commands.specs.Stores.{JobStores, Sized}
 use Rattle.inner_commands.specs.Progress.{state, withEnds, nextOf, Onward}
 use Rattle.inner_reading.specs.Ending.{Going, Ended, answerOf}
-use Rattle.inner_commands.proofs.Bounds.{false-true}
 
 -- stores of the same lengths
 pub record SameSizes (now was : JobStores) : Type 0 where
@@ -63,7 +62,7 @@ loop-start job s h =
     record {
       fuel = suc (length job);
       enough = omega arith;
-      bounds = record { here = omega arith; small = omega arith; rows-left = omega arith; picked = omega arith; bytes-used = omega arith; row-left = λ f. absurd (false-true f) };
+      bounds = record { here = omega arith; small = omega arith; rows-left = omega arith; picked = omega arith; bytes-used = omega arith; row-left = λ f. absurd (false≢true f) };
       same = rw (take-suc-set (s .starts) 0 0 h);
     }
 

@@ -14,12 +14,6 @@ use Rattle.inner_searching.specs.Behind.{Passed}
 
 -- ---- ascending lists by their places
 
-ascending-drop : (low a : ℕ) (xs : List ℕ) → Ascending low xs → (k : ℕ) × Ascending k (drop a xs)
-unfolding Ascending
-ascending-drop low zero xs up = (low, up)
-ascending-drop low (suc a) [] up = (low, tt)
-ascending-drop low (suc a) (x ∷ xs) up = ascending-drop (suc x) a xs (up .1)
-
 at-low : (low i : ℕ) (xs : List ℕ) → Ascending low xs → i < length xs → low ≤ getD xs i 0
 unfolding Ascending
 at-low low i [] up h = absurd (omega arith)

@@ -11,7 +11,7 @@ use lib.ListN.{length, drop, getD, length-drop}
 use lib.Dec.{eqb, ltb}
 use borrow.Author.Tests.{eqb-true, lt-ltb}
 use Rattle.lists.specs.Functions.{empty}
-use Rattle.lists.proofs.Members.{by-test}
+use Rattle.lists.proofs.Members.{by-test, empty-nil}
 use Rattle.lists.proofs.Overlap.{overlap-left, overlap-right}
 use Rattle.foundation.specs.Plan.{Planning, Side}
 use Rattle.foundation.specs.Subscripts.{kept, shared, startAt, addedAt, Shared, soleStep, sharedEnd}
@@ -30,11 +30,6 @@ use Rattle.inner_sharing.proofs.Sharing.{last-none, sole-empty, sole-be
 -- ---- how much is shared
 
 -- a list that tests as empty has no member, and any other has one
-empty-nil : (xs : List ℕ) → empty xs ≡ true → xs ≡ []
-unfolding empty
-empty-nil [] e = refl
-empty-nil (x ∷ xs) e = cc
-
 pub empty-length : (xs : List ℕ) → empty xs ≡ true → length xs ≡ 0
 empty-length xs e = ap length (empty-nil xs e)
 

@@ -13,7 +13,7 @@ use lib.Seq.{take-suc, take-all, getD-take, getD-drop}
 use borrow.Author.Tests.{eqb-true, eqb-false}
 use Rattle.lists.specs.Functions.{all}
 use Rattle.lists.specs.Sets.{member, Ascending, indexOf}
-use Rattle.lists.proofs.Members.{by-test, fails, member-head, member-tail, not-member-nil}
+use Rattle.lists.proofs.Members.{by-test, fails, member-head, member-tail, not-member-nil, all-snoc}
 use Rattle.lists.proofs.Order.{member-low, ascending-weaken}
 use Rattle.lists.proofs.Places.{member-at, index-at, index-below}
 use Rattle.foundation.specs.Numbers.{isZero, finite}
@@ -69,11 +69,6 @@ at-blend : (side : Side) (done : List ℕ) (new old : Square Float) (l x : ℕ) 
 unfolding blend atSide
 at-blend lower done new old l x = refl
 at-blend upper done new old l x = refl
-
-all-snoc : (t : ℕ → Bool) (xs : List ℕ) (x : ℕ) → all t (xs ++ x ∷ []) ≡ all t xs && t x
-unfolding all
-all-snoc t [] x = by-test (t x) (λ e. rw e) (λ e. rw e)
-all-snoc t (y ∷ xs) x = by-test (t y) (λ e. rw e (all-snoc t xs x)) (λ e. rw e)
 
 all-mapped : (t : Float → Bool) (f : ℕ → Float) (xs : List ℕ) → ((x : ℕ) → member x xs ≡ true → t (f x) ≡ true) → all t (map f xs) ≡ true
 unfolding all

@@ -68,11 +68,6 @@ pub replaced {ℓ} : {A : Type ℓ} (before mid mid' rest l : List A) (a c : ℕ
 replaced before mid mid' rest l a c p q e =
     rw (← drop-drop c a l, e, take-at before (mid ++ rest) a p, drop-at before (mid ++ rest) a p, drop-at mid rest c q)
 
-pub all-snoc : (t : Float → Bool) (xs : List Float) (x : Float) → all t (xs ++ x ∷ []) ≡ all t xs && t x
-unfolding all
-all-snoc t [] x = by-test (t x) (λ e. rw e) (λ e. rw e)
-all-snoc t (y ∷ xs) x = by-test (t y) (λ e. rw e (all-snoc t xs x)) (λ e. rw e)
-
 -- all pass, so the one at a place does
 pub all-at : (t : Float → Bool) (xs : List Float) (q : ℕ) (z : Float) → all t xs ≡ true → q < length xs → t (getD xs q z) ≡ true
 unfolding all

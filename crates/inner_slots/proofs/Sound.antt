@@ -1,5 +1,5 @@
 -- A step is sound exactly where what it leaves is finite; its updates are a product of two counts.
-use mathlib.Core.Bool.{Bool, true, false, cond, not, _&&_, _||_, true≢false, false≢true}
+use mathlib.Core.Bool.{Bool, true, false, cond, not, _&&_, _||_, true≢false, false≢true, and-false}
 use mathlib.Core.List.{List, [], _∷_, _++_, map}
 use mathlib.Core.Logic.{⊎-elim}
 use mathlib.Core.Path.{_≡_, refl, sym, ap, _∙_}
@@ -137,10 +137,6 @@ module _ (s : Planning) (n : ℕ) (g : Grid s n) (square : Square Float) (h : In
         (λ j m. place i j l (between-low j (suc k) n m) y))))))
         (λ f. rw f)))
       where
-        and-false : (a : Bool) → a && false ≡ false
-        and-false true = refl
-        and-false false = refl
-
         all-same : (p q : ℕ → Bool) (xs : List ℕ) → ((x : ℕ) → member x xs ≡ true → p x ≡ q x) → all p xs ≡ all q xs
         all-same p q [] e = refl
         all-same p q (x ∷ xs) e = rw (e x (member-head x xs), all-same p q xs (λ z m. e z (member-tail z x xs m)))
@@ -182,10 +178,6 @@ module _ (s : Planning) (n : ℕ) (g : Grid s n) (square : Square Float) (h : In
         let q = h .outside i k (no-slot-lower s n g i k l e) in
         from-parts i (rw (multiplier-zero k square i (rw q zero-plus-zero)) (h .sound i k)) (rw (z, and-false (ltb k i)) (right-sound i))
         (λ j a b. rw (row-stays s n g square h k i j e) (h .sound i j))
-      where
-        and-false : (a : Bool) → a && false ≡ false
-        and-false true = refl
-        and-false false = refl
 
     -- one with a slot there leaves what the flags tell of
     row-in : (i : ℕ) → member i (kept s lower k) ≡ true → all finite (map (multiplier k square) (kept s lower k)) ≡ true
@@ -279,7 +271,3 @@ module _ (s : Planning) (n : ℕ) (g : Grid s n) (square : Square Float) (h : In
           | yes l ↦ rw (zero-multiplier i l m, and-false (ltb k i)) (right-sound i)
           | no l ↦ rw (le-ltb k i (omega arith)) (right-sound i)
         ])
-      where
-        and-false : (a : Bool) → a && false ≡ false
-        and-false true = refl
-        and-false false = refl

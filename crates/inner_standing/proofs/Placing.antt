@@ -1,6 +1,6 @@
 -- Which command may stand where.
 use mathlib.Core.Path.{_≡_, refl, sym, _∙_}
-use mathlib.Core.Bool.{Bool, true, false, cond, _&&_, _||_}
+use mathlib.Core.Bool.{Bool, true, false, cond, _&&_, _||_, and-true, and-false}
 use mathlib.Core.List.{List}
 use Prim.Native.Nat.{ℕ, _+_, _≤_, _<_}
 use native.Mathlib.Numerals.{add-one}
@@ -15,14 +15,6 @@ use Rattle.inner_commands.specs.declared.Progress.{Progress}
 use Rattle.inner_commands.specs.declared.Turn.the-variants.{Refused}
 use Rattle.inner_commands.specs.Stores.{JobStores}
 use Rattle.inner_commands.specs.Progress.{Within, state, nextOf}
-
-and-false : (b : Bool) → b && false ≡ false
-and-false true = refl
-and-false false = refl
-
-and-true : (b : Bool) → b && true ≡ b
-and-true true = refl
-and-true false = refl
 
 -- the table of commands, by where reading stands
 module _ (r : Reading) (byte : ℕ) (bytes : List ℕ) where

@@ -11,12 +11,13 @@ use lib.ListN.{length, take, set, getD, length-take, length-map}
 use lib.Seq.{take-suc-set, take-all}
 use Rattle.lists.specs.Functions.{all}
 use Rattle.lists.proofs.Places.{member-at}
+use Rattle.lists.proofs.Members.{all-snoc}
 use Rattle.foundation.specs.Numbers.{isZero, finite, product, difference, plusZero}
 use Rattle.foundation.specs.Reference.{reduced}
 use Rattle.foundation.proofs.FloatSteps.{reduced-right}
 use Rattle.inner_slots.specs.Flags.{flagged}
 use Rattle.inner_slots.proofs.Flags.{flagged-more}
-use Rattle.inner_slots.proofs.Mapped.{getD-mapped, all-snoc}
+use Rattle.inner_slots.proofs.Mapped.{getD-mapped}
 use Rattle.inner_stretches.specs.Stretches.{reducedAll, gathered, Below}
 
 -- What a loop holds that reduces a stretch: q places are done.

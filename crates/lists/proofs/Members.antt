@@ -7,7 +7,7 @@ use Prim.Native.Nat.{ℕ, zero, suc, _+_, _-_, _≤_, _<_}
 use native.Mathlib.Omega.{arith}
 use lib.Dec.{eqb, ltb}
 use borrow.Author.Tests.{eqb-true, eqb-false, eq-eqb, ne-eqb, lt-ltb, le-ltb}
-use Rattle.lists.specs.Functions.{keep, all}
+use Rattle.lists.specs.Functions.{keep, all, empty}
 use Rattle.lists.specs.Sets.{member, run, upto, between, mergeOne, union, joinAll}
 
 -- a test passes or fails
@@ -57,6 +57,18 @@ same-test false false f g = refl
 pub fails : (a : Bool) → (a ≡ true → ⊥) → a ≡ false
 fails true f = absurd (f refl)
 fails false f = refl
+
+-- all of a list and one more pass
+pub all-snoc : {A : Type 0} (t : A → Bool) (xs : List A) (x : A) → all t (xs ++ x ∷ []) ≡ all t xs && t x
+unfolding all
+all-snoc t [] x = by-test (t x) (λ e. rw e) (λ e. rw e)
+all-snoc t (y ∷ xs) x = by-test (t y) (λ e. rw e (all-snoc t xs x)) (λ e. rw e)
+
+-- a list that is empty by the test has no member
+pub empty-nil : (xs : List ℕ) → empty xs ≡ true → xs ≡ []
+unfolding empty
+empty-nil [] e = refl
+empty-nil (x ∷ xs) e = absurd (false≢true e)
 
 -- a number is a member of each list that begins with it
 pub member-head : (x : ℕ) (xs : List ℕ) → member x (x ∷ xs) ≡ true
