@@ -14,7 +14,7 @@
 
 size_t dalumiveth_plan(PATTERN, WRITE(l_subs), WRITE(l_starts), WRITE(l_slots), WRITE(u_subs), WRITE(u_starts), WRITE(u_slots), WORK, WRITE(answer));
 size_t dalumiveth_verify(PATTERN, LENT_PLAN, WORK, WRITE(answer));
-size_t dalumiveth_run_largest(PATTERN, LENT_PLAN, READ_NUMBERS(values), READ_NUMBERS(right), size_t cut, size_t steps, WRITE_NUMBERS(l),
-                              WRITE_NUMBERS(u), WRITE_NUMBERS(d), WRITE_NUMBERS(x), WRITE(pivots), WORK, WRITE_NUMBERS(copy),
-                              WRITE_NUMBERS(dense), WRITE(answer));
+size_t dalumiveth_run(PATTERN, LENT_PLAN, READ_NUMBERS(values), READ_NUMBERS(right), size_t by_list, READ(rows), size_t cut, size_t steps,
+                      WRITE_NUMBERS(l), WRITE_NUMBERS(u), WRITE_NUMBERS(d), WRITE_NUMBERS(x), WRITE(pivots), WORK, WRITE_NUMBERS(copy),
+                      WRITE_NUMBERS(dense), WRITE(answer));
 #endif

@@ -33,8 +33,9 @@ size_t ours_run(struct ours *o)
 {
     const struct pattern *p = o->pattern;
     size_t answer[3];
-    size_t number = dalumiveth_run_largest(LEND_PATTERN, LEND(counts), LEND_PLAN, p->values, p->entries, p->right, p->n, 0, 0, LEND(l),
-                                           LEND(u), LEND(d), LEND(x), LEND(pivots), LEND_WORK, LEND(copy), LEND(dense), answer, 3);
+    /* By the largest entry: no list is read, so the columns stand in for one. */
+    size_t number = dalumiveth_run(LEND_PATTERN, LEND(counts), LEND_PLAN, p->values, p->entries, p->right, p->n, 0, p->columns, 0, 0, 0,
+                                   LEND(l), LEND(u), LEND(d), LEND(x), LEND(pivots), LEND_WORK, LEND(copy), LEND(dense), answer, 3);
     o->updates = answer[2];
     return number;
 }

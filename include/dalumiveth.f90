@@ -19,7 +19,7 @@ module dalumiveth
   implicit none
   private
   public :: dlm_make_plan, dlm_verify_plan, dlm_run_largest, dlm_run_listed, dlm_tally_add, dlm_sentence
-  public :: dalumiveth_plan, dalumiveth_verify, dalumiveth_run_largest, dalumiveth_run_listed, dalumiveth_tally_add, dalumiveth_job
+  public :: dalumiveth_plan, dalumiveth_verify, dalumiveth_run, dalumiveth_tally_add, dalumiveth_job
 
   integer, parameter, public :: dlm_size = c_size_t, dlm_real = c_double
   integer(dlm_size), parameter :: most_rows = 1024
@@ -92,10 +92,11 @@ module dalumiveth
       integer(c_size_t) :: number
     end function
 
-    function dalumiveth_run_largest(most, n, starts, starts_length, columns, columns_length, counts, counts_length, &
+    ! by_list 0: by the largest entry, and rows is not read; cut 0: a whole run, and steps is not read.
+    function dalumiveth_run(most, n, starts, starts_length, columns, columns_length, counts, counts_length, &
         l_subs, l_subs_length, l_starts, l_starts_length, l_slots, l_slots_length, &
         u_subs, u_subs_length, u_starts, u_starts_length, u_slots, u_slots_length, &
-        values, values_length, right, right_length, cut, steps, &
+        values, values_length, right, right_length, by_list, rows, rows_length, cut, steps, &
         l, l_length, u, u_length, d, d_length, x, x_length, pivots, pivots_length, &
         row_heads, row_heads_length, row_links, row_links_length, set_heads, set_heads_length, set_links, set_links_length, &
         list, list_length, spare, spare_length, copy, copy_length, dense, dense_length, answer, answer_length) &
@@ -103,31 +104,7 @@ module dalumiveth
       import :: c_size_t, c_double
       integer(c_size_t), value :: most, n, starts_length, columns_length, counts_length
       integer(c_size_t), value :: l_subs_length, l_starts_length, l_slots_length, u_subs_length, u_starts_length, u_slots_length
-      integer(c_size_t), value :: values_length, right_length, cut, steps
-      integer(c_size_t), value :: l_length, u_length, d_length, x_length, pivots_length
-      integer(c_size_t), value :: row_heads_length, row_links_length, set_heads_length, set_links_length, list_length, spare_length
-      integer(c_size_t), value :: copy_length, dense_length, answer_length
-      integer(c_size_t), intent(in) :: starts(*), columns(*), counts(*)
-      integer(c_size_t), intent(in) :: l_subs(*), l_starts(*), l_slots(*), u_subs(*), u_starts(*), u_slots(*)
-      real(c_double), intent(in) :: values(*), right(*)
-      real(c_double), intent(inout) :: l(*), u(*), d(*), x(*), copy(*), dense(*)
-      integer(c_size_t), intent(inout) :: pivots(*), answer(*)
-      integer(c_size_t), intent(inout) :: row_heads(*), row_links(*), set_heads(*), set_links(*), list(*), spare(*)
-      integer(c_size_t) :: number
-    end function
-
-    function dalumiveth_run_listed(most, n, starts, starts_length, columns, columns_length, counts, counts_length, &
-        l_subs, l_subs_length, l_starts, l_starts_length, l_slots, l_slots_length, &
-        u_subs, u_subs_length, u_starts, u_starts_length, u_slots, u_slots_length, &
-        values, values_length, right, right_length, rows, rows_length, cut, steps, &
-        l, l_length, u, u_length, d, d_length, x, x_length, pivots, pivots_length, &
-        row_heads, row_heads_length, row_links, row_links_length, set_heads, set_heads_length, set_links, set_links_length, &
-        list, list_length, spare, spare_length, copy, copy_length, dense, dense_length, answer, answer_length) &
-        result(number) bind(c)
-      import :: c_size_t, c_double
-      integer(c_size_t), value :: most, n, starts_length, columns_length, counts_length
-      integer(c_size_t), value :: l_subs_length, l_starts_length, l_slots_length, u_subs_length, u_starts_length, u_slots_length
-      integer(c_size_t), value :: values_length, right_length, rows_length, cut, steps
+      integer(c_size_t), value :: values_length, right_length, by_list, rows_length, cut, steps
       integer(c_size_t), value :: l_length, u_length, d_length, x_length, pivots_length
       integer(c_size_t), value :: row_heads_length, row_links_length, set_heads_length, set_links_length, list_length, spare_length
       integer(c_size_t), value :: copy_length, dense_length, answer_length
@@ -202,34 +179,9 @@ contains
     answer = dlm_answer(number, numbers(2))
   end function
 
-  ! Eliminates and solves by the largest entry of each column; with `steps`, the first so many steps alone. Refuses with 1 to 6 and 9 to 14.
-  function dlm_run_largest(pattern, plan, values, right, factor, work, steps) result(answer)
-    type(dlm_pattern), intent(in) :: pattern
-    type(dlm_plan), intent(in) :: plan
-    real(dlm_real), intent(in) :: values(:), right(:)
-    type(dlm_factor), intent(inout) :: factor
-    type(dlm_work), intent(inout) :: work
-    integer(dlm_size), intent(in), optional :: steps
-    type(dlm_answer) :: answer
-    integer(dlm_size) :: n, numbers(3), number
-    n = max(0_dlm_size, min(pattern%n, most_rows))
-    call make_work(work, n)
-    call make_factor(factor, plan, n)
-    number = dalumiveth_run_largest(most_rows, pattern%n, pattern%starts, size(pattern%starts, kind=dlm_size), &
-        pattern%columns, size(pattern%columns, kind=dlm_size), plan%counts, 7_dlm_size, &
-        plan%l_subs, size(plan%l_subs, kind=dlm_size), plan%l_starts, size(plan%l_starts, kind=dlm_size), &
-        plan%l_slots, size(plan%l_slots, kind=dlm_size), plan%u_subs, size(plan%u_subs, kind=dlm_size), &
-        plan%u_starts, size(plan%u_starts, kind=dlm_size), plan%u_slots, size(plan%u_slots, kind=dlm_size), &
-        values, size(values, kind=dlm_size), right, size(right, kind=dlm_size), is_cut(steps), steps_of(steps), &
-        factor%l, size(factor%l, kind=dlm_size), factor%u, size(factor%u, kind=dlm_size), factor%d, n, factor%x, n, &
-        factor%pivots, n, work%row_heads, n + 1, work%row_links, n + 1, work%set_heads, n + 1, work%set_links, n + 1, &
-        work%list, n, work%spare, n, work%copy, n, work%dense, n + 1, numbers, 3_dlm_size)
-    answer = dlm_answer(number, numbers(2))
-    factor%updates = numbers(3)
-  end function
-
-  ! The same with the pivot row of step k given as rows(k), from k to n.
-  function dlm_run_listed(pattern, plan, values, right, rows, factor, work, steps) result(answer)
+  ! A run, by the largest entry or by the list: the part that the two functions below share.
+  function run_by(by_list, pattern, plan, values, right, rows, factor, work, steps) result(answer)
+    integer(dlm_size), intent(in) :: by_list
     type(dlm_pattern), intent(in) :: pattern
     type(dlm_plan), intent(in) :: plan
     real(dlm_real), intent(in) :: values(:), right(:)
@@ -242,18 +194,43 @@ contains
     n = max(0_dlm_size, min(pattern%n, most_rows))
     call make_work(work, n)
     call make_factor(factor, plan, n)
-    number = dalumiveth_run_listed(most_rows, pattern%n, pattern%starts, size(pattern%starts, kind=dlm_size), &
+    number = dalumiveth_run(most_rows, pattern%n, pattern%starts, size(pattern%starts, kind=dlm_size), &
         pattern%columns, size(pattern%columns, kind=dlm_size), plan%counts, 7_dlm_size, &
         plan%l_subs, size(plan%l_subs, kind=dlm_size), plan%l_starts, size(plan%l_starts, kind=dlm_size), &
         plan%l_slots, size(plan%l_slots, kind=dlm_size), plan%u_subs, size(plan%u_subs, kind=dlm_size), &
         plan%u_starts, size(plan%u_starts, kind=dlm_size), plan%u_slots, size(plan%u_slots, kind=dlm_size), &
-        values, size(values, kind=dlm_size), right, size(right, kind=dlm_size), rows, size(rows, kind=dlm_size), &
+        values, size(values, kind=dlm_size), right, size(right, kind=dlm_size), by_list, rows, size(rows, kind=dlm_size), &
         is_cut(steps), steps_of(steps), &
         factor%l, size(factor%l, kind=dlm_size), factor%u, size(factor%u, kind=dlm_size), factor%d, n, factor%x, n, &
         factor%pivots, n, work%row_heads, n + 1, work%row_links, n + 1, work%set_heads, n + 1, work%set_links, n + 1, &
         work%list, n, work%spare, n, work%copy, n, work%dense, n + 1, numbers, 3_dlm_size)
     answer = dlm_answer(number, numbers(2))
     factor%updates = numbers(3)
+  end function
+
+  ! Eliminates and solves by the largest entry of each column; with `steps`, the first so many steps alone. Refuses with 1 to 6 and 9 to 14.
+  function dlm_run_largest(pattern, plan, values, right, factor, work, steps) result(answer)
+    type(dlm_pattern), intent(in) :: pattern
+    type(dlm_plan), intent(in) :: plan
+    real(dlm_real), intent(in) :: values(:), right(:)
+    type(dlm_factor), intent(inout) :: factor
+    type(dlm_work), intent(inout) :: work
+    integer(dlm_size), intent(in), optional :: steps
+    type(dlm_answer) :: answer
+    answer = run_by(0_dlm_size, pattern, plan, values, right, [integer(dlm_size) ::], factor, work, steps)
+  end function
+
+  ! The same with the pivot row of step k given as rows(k), from k to n.
+  function dlm_run_listed(pattern, plan, values, right, rows, factor, work, steps) result(answer)
+    type(dlm_pattern), intent(in) :: pattern
+    type(dlm_plan), intent(in) :: plan
+    real(dlm_real), intent(in) :: values(:), right(:)
+    integer(dlm_size), intent(in) :: rows(:)
+    type(dlm_factor), intent(inout) :: factor
+    type(dlm_work), intent(inout) :: work
+    integer(dlm_size), intent(in), optional :: steps
+    type(dlm_answer) :: answer
+    answer = run_by(1_dlm_size, pattern, plan, values, right, rows, factor, work, steps)
   end function
 
   ! Adds the updates of a finished run to a tally of 0 to 4,294,967,295 that stays with the caller. 19: the tally keeps its sum. A tally

@@ -226,33 +226,19 @@ size_t dalumiveth_verify(size_t most, size_t n, const size_t *starts, size_t sta
                          size_t *set_heads, size_t set_heads_length, size_t *set_links, size_t set_links_length, size_t *list,
                          size_t list_length, size_t *spare, size_t spare_length, size_t *answer, size_t answer_length);
 
-/* answer: number, step, updates. Refuses with 1 to 6 and 9 to 14. */
-size_t dalumiveth_run_largest(size_t most, size_t n, const size_t *starts, size_t starts_length, const size_t *columns,
-                              size_t columns_length, const size_t *counts, size_t counts_length, const size_t *l_subs,
-                              size_t l_subs_length, const size_t *l_starts, size_t l_starts_length, const size_t *l_slots,
-                              size_t l_slots_length, const size_t *u_subs, size_t u_subs_length, const size_t *u_starts,
-                              size_t u_starts_length, const size_t *u_slots, size_t u_slots_length, const double *values,
-                              size_t values_length, const double *right, size_t right_length, size_t cut, size_t steps, double *l,
-                              size_t l_length, double *u, size_t u_length, double *d, size_t d_length, double *x, size_t x_length,
-                              size_t *pivots, size_t pivots_length, size_t *row_heads, size_t row_heads_length, size_t *row_links,
-                              size_t row_links_length, size_t *set_heads, size_t set_heads_length, size_t *set_links,
-                              size_t set_links_length, size_t *list, size_t list_length, size_t *spare, size_t spare_length,
-                              double *copy, size_t copy_length, double *dense, size_t dense_length, size_t *answer,
-                              size_t answer_length);
-
-/* As dalumiveth_run_largest; rows[k-1] is the pivot row of step k, k to n. */
-size_t dalumiveth_run_listed(size_t most, size_t n, const size_t *starts, size_t starts_length, const size_t *columns,
-                             size_t columns_length, const size_t *counts, size_t counts_length, const size_t *l_subs,
-                             size_t l_subs_length, const size_t *l_starts, size_t l_starts_length, const size_t *l_slots,
-                             size_t l_slots_length, const size_t *u_subs, size_t u_subs_length, const size_t *u_starts,
-                             size_t u_starts_length, const size_t *u_slots, size_t u_slots_length, const double *values,
-                             size_t values_length, const double *right, size_t right_length, const size_t *rows, size_t rows_length,
-                             size_t cut, size_t steps, double *l, size_t l_length, double *u, size_t u_length, double *d,
-                             size_t d_length, double *x, size_t x_length, size_t *pivots, size_t pivots_length, size_t *row_heads,
-                             size_t row_heads_length, size_t *row_links, size_t row_links_length, size_t *set_heads,
-                             size_t set_heads_length, size_t *set_links, size_t set_links_length, size_t *list, size_t list_length,
-                             size_t *spare, size_t spare_length, double *copy, size_t copy_length, double *dense, size_t dense_length,
-                             size_t *answer, size_t answer_length);
+/* by_list 0: by the largest entry, and rows is not read; else rows[k-1] is the pivot row of step k, from k to n. cut 0: a whole run, and steps
+   is not read; else the first `steps` steps. answer: number, step, updates. Refuses with 1 to 6 and 9 to 14. */
+size_t dalumiveth_run(size_t most, size_t n, const size_t *starts, size_t starts_length, const size_t *columns, size_t columns_length,
+                      const size_t *counts, size_t counts_length, const size_t *l_subs, size_t l_subs_length, const size_t *l_starts,
+                      size_t l_starts_length, const size_t *l_slots, size_t l_slots_length, const size_t *u_subs, size_t u_subs_length,
+                      const size_t *u_starts, size_t u_starts_length, const size_t *u_slots, size_t u_slots_length,
+                      const double *values, size_t values_length, const double *right, size_t right_length, size_t by_list,
+                      const size_t *rows, size_t rows_length, size_t cut, size_t steps, double *l, size_t l_length, double *u,
+                      size_t u_length, double *d, size_t d_length, double *x, size_t x_length, size_t *pivots, size_t pivots_length,
+                      size_t *row_heads, size_t row_heads_length, size_t *row_links, size_t row_links_length, size_t *set_heads,
+                      size_t set_heads_length, size_t *set_links, size_t set_links_length, size_t *list, size_t list_length,
+                      size_t *spare, size_t spare_length, double *copy, size_t copy_length, double *dense, size_t dense_length,
+                      size_t *answer, size_t answer_length);
 
 /* answer: number (0 or 19), step 0, and the sum that the tally has afterwards (19: the old one). */
 size_t dalumiveth_tally_add(uint32_t sum, size_t updates, size_t *answer, size_t answer_length);
@@ -464,32 +450,33 @@ static inline dlm_extent dlm_cut(size_t steps)
     return extent;
 }
 
+/* A run, by the largest entry or by the list: the part that the two functions below share. */
+static inline dlm_answer dlm_run_by(size_t by_list, const dlm_pattern *pattern, const dlm_plan *plan, const dlm_system *system,
+                                    const size_t *rows, size_t rows_length, dlm_extent extent, dlm_factor *factor, dlm_work *work)
+{
+    size_t answer[3] = {0};
+    size_t counts[7];
+    dlm_counts_out(&plan->counts, counts);
+    dalumiveth_run(DLM_PATTERN(pattern), counts, 7, DLM_PLAN(plan), DLM_SYSTEM(system), by_list, DLM_READ_NUMBERS(rows, rows_length),
+                   extent.cut, extent.steps, DLM_FACTOR(factor), DLM_WORK(work), DLM_REALS(work->copy), DLM_REALS(work->dense),
+                   answer, 3);
+    factor->updates = answer[2];
+    return dlm_answer_in(answer);
+}
+
 /* Eliminates and solves; the pivot row of step k is the row from k on with the largest magnitude in column k, the lowest if equal.
    Refuses with 1 to 6 and 9 to 14. */
 static inline dlm_answer dlm_run_largest(const dlm_pattern *pattern, const dlm_plan *plan, const dlm_system *system, dlm_extent extent,
                                          dlm_factor *factor, dlm_work *work)
 {
-    size_t answer[3] = {0};
-    size_t counts[7];
-    dlm_counts_out(&plan->counts, counts);
-    dalumiveth_run_largest(DLM_PATTERN(pattern), counts, 7, DLM_PLAN(plan), DLM_SYSTEM(system), extent.cut, extent.steps,
-                           DLM_FACTOR(factor), DLM_WORK(work), DLM_REALS(work->copy), DLM_REALS(work->dense), answer, 3);
-    factor->updates = answer[2];
-    return dlm_answer_in(answer);
+    return dlm_run_by(0, pattern, plan, system, NULL, 0, extent, factor, work);
 }
 
 /* The same with the pivot row of step k given as rows[k-1], from k to n; rows_length must be n. */
 static inline dlm_answer dlm_run_listed(const dlm_pattern *pattern, const dlm_plan *plan, const dlm_system *system, const size_t *rows,
                                         size_t rows_length, dlm_extent extent, dlm_factor *factor, dlm_work *work)
 {
-    size_t answer[3] = {0};
-    size_t counts[7];
-    dlm_counts_out(&plan->counts, counts);
-    dalumiveth_run_listed(DLM_PATTERN(pattern), counts, 7, DLM_PLAN(plan), DLM_SYSTEM(system), DLM_READ_NUMBERS(rows, rows_length),
-                          extent.cut, extent.steps, DLM_FACTOR(factor), DLM_WORK(work), DLM_REALS(work->copy),
-                          DLM_REALS(work->dense), answer, 3);
-    factor->updates = answer[2];
-    return dlm_answer_in(answer);
+    return dlm_run_by(1, pattern, plan, system, rows, rows_length, extent, factor, work);
 }
 
 /* Adds the updates of a finished run to a tally that stays with the caller; an empty one is 0. Refuses with 19: the tally keeps its sum. */

@@ -19,7 +19,7 @@ _PATTERN = 2 * _NUMBER + 2 * _SLICE  # most, n; starts, columns
 _COUNTS = _SLICE
 _STORES = 6 * _SLICE                 # subscripts, starts and slots of L, then of U
 _SYSTEM = 2 * _SLICE                 # values, right side
-_ROWS = _SLICE
+_ROWS = _NUMBER + _SLICE             # by list or not, the rows
 _EXTENT = 2 * _NUMBER                # cut or not, steps
 _RESULTS = 5 * _SLICE                # l, u, d, x, pivots
 _WORK = 6 * _SLICE                   # row heads and links, set heads and links, list, spare
@@ -29,8 +29,7 @@ _ANSWER = _SLICE
 _PARAMETERS = {
     "dalumiveth_plan": _PATTERN + _STORES + _WORK + _ANSWER,
     "dalumiveth_verify": _PATTERN + _COUNTS + _STORES + _WORK + _ANSWER,
-    "dalumiveth_run_largest": _PATTERN + _COUNTS + _STORES + _SYSTEM + _EXTENT + _RESULTS + _RUN_WORK + _ANSWER,
-    "dalumiveth_run_listed": _PATTERN + _COUNTS + _STORES + _SYSTEM + _ROWS + _EXTENT + _RESULTS + _RUN_WORK + _ANSWER,
+    "dalumiveth_run": _PATTERN + _COUNTS + _STORES + _SYSTEM + _ROWS + _EXTENT + _RESULTS + _RUN_WORK + _ANSWER,
     "dalumiveth_tally_add": [ctypes.c_uint32] + _NUMBER + _ANSWER,
     "dalumiveth_job": 2 * _SLICE,
 }

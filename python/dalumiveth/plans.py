@@ -122,15 +122,14 @@ class Plan:
         diagonal, are copied), and never changed. Values alone are quicker than a matrix, whose pattern is read each time.
         """
         pattern, values = self._pattern_and_values(matrix)
-        system, name = [values, floats(right, "right")], "dalumiveth_run_largest"
-        if rows is not None:
-            system.append(whole_numbers(rows, "rows").astype(USIZE) + USIZE.type(1))
-            name = "dalumiveth_run_listed"
+        system = lend(values, floats(right, "right"))
+        listed = np.zeros(0, dtype=USIZE) if rows is None else whole_numbers(rows, "rows").astype(USIZE) + USIZE.type(1)
+        choice = (int(rows is not None), *lend(listed))
         extent = (0, 0) if steps is None else (1, as_usize(steps, "steps"))
         results = self._result_stores()
-        lent = (*lend(pattern.starts, pattern.columns), *self._lent_plan, *lend(*system), *extent, *lend(*results))
+        lent = (*lend(pattern.starts, pattern.columns), *self._lent_plan, *system, *choice, *extent, *lend(*results))
         with self._lock:
-            call(name, self._most, pattern.n, *lent, *self._lent_work, *self._lent_answer)
+            call("dalumiveth_run", self._most, pattern.n, *lent, *self._lent_work, *self._lent_answer)
             answer = self._answer.tolist()
         raise_if_refused(answer)
         return Run(self, *results, updates=answer[2], steps=steps)

@@ -68,10 +68,11 @@ class Arrays(unittest.TestCase):
         plan, longer = self.plan, [np.full(20, 7.0), np.full(20, 7.0)]
         results = [*longer, np.full(4, 7.0), np.full(4, 7.0), np.full(4, 7, dtype=USIZE)]
         pattern, answer = plan.pattern, np.full(5, 7, dtype=USIZE)
+        no_rows = np.zeros(0, dtype=USIZE)
 
         def run(right):
-            lent = (*lend(pattern.starts, pattern.columns), *plan._lent_plan, *lend(self.matrix.data, right), 0, 0)
-            return call("dalumiveth_run_largest", 4, 4, *lent, *lend(*results), *plan._lent_work, *lend(answer))
+            lent = (*lend(pattern.starts, pattern.columns), *plan._lent_plan, *lend(self.matrix.data, right), 0, *lend(no_rows), 0, 0)
+            return call("dalumiveth_run", 4, 4, *lent, *lend(*results), *plan._lent_work, *lend(answer))
 
         self.assertEqual(run(self.right), 0)
         self.assertEqual(answer.tolist(), [0, 0, 3, 0, 0])

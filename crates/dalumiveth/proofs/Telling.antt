@@ -23,7 +23,8 @@ use Rattle.answers.specs.declared.PlanCounts.{PlanCounts}
 use Rattle.answers.specs.declared.RunAnswer.{RunAnswer}
 use Rattle.answers.specs.declared.VerifyAnswer.{VerifyAnswer}
 use Rattle.planning.specs.Calls.{PlanKept, VerifyKept}
-use Rattle.elimination.specs.Calls.{RunWork, RunKept}
+use Rattle.elimination.specs.Calls.{chosenBy, RunWork, RunKept}
+use Rattle.elimination.specs.declared.PivotChoice.{PivotChoice}
 use Rattle.tally.specs.Calls.{answerOf as tallyAnswerOf}
 use Rattle.tally.specs.declared.TallyAnswer.{TallyAnswer}
 use Rattle.numbers.specs.Numbered.{refusalNumber, planNumbers, verifyNumbers, runNumbers, tallyNumbers, laid, countsFrom}
@@ -64,14 +65,15 @@ verify-told r most p counts c stores scratch scratch′ answer answer′ a e kep
       work = k .work;
     }
 
-pub run-told : (r most : ℕ) (p : Lent) (counts : List ℕ) (c : PlanCounts) (stores : PlanStores) (choice : Choice) (extent : Extent) (x : CallExtent) (lending : Lending)
-    (results′ : RunStores) (scratch scratch′ : RunWork) (answer answer′ : List ℕ) (a : RunAnswer)
-    → countsIn c ≡ countsFrom counts → extentOf x ≡ extent
-    → RunKept a most p (lentPlan c stores) choice (extentOf x) lending results′ scratch scratch′
+pub run-told : (r most : ℕ) (p : Lent) (counts : List ℕ) (c : PlanCounts) (stores : PlanStores) (rows : List ℕ) (by : PivotChoice) (choice : Choice) (extent : Extent)
+    (x : CallExtent) (lending : Lending) (results′ : RunStores) (scratch scratch′ : RunWork) (answer answer′ : List ℕ) (a : RunAnswer)
+    → countsIn c ≡ countsFrom counts → chosenBy by rows ≡ choice → extentOf x ≡ extent
+    → RunKept a most p (lentPlan c stores) (chosenBy by rows) (extentOf x) lending results′ scratch scratch′
     → (r ≡ refusalNumber (runAnswerOf a)) × (answer′ ≡ laid (length answer) (runNumbers (runAnswerOf a)))
     → RunTold r most p (lentFrom counts stores) choice extent lending results′ scratch scratch′ answer answer′
-run-told r most p counts c stores choice extent x lending results′ scratch scratch′ answer answer′ a e f kept t =
-    let j = subst (λ (n : Counts). RunKept a most p (record { counts = n; stores = stores }) choice (extentOf x) lending results′ scratch scratch′) e kept in
+run-told r most p counts c stores rows by choice extent x lending results′ scratch scratch′ answer answer′ a e g f kept t =
+    let i = subst (λ (n : Counts). RunKept a most p (record { counts = n; stores = stores }) (chosenBy by rows) (extentOf x) lending results′ scratch scratch′) e kept in
+    let j = subst (λ (y : Choice). RunKept a most p (lentFrom counts stores) y (extentOf x) lending results′ scratch scratch′) g i in
     let k = subst (λ (y : Extent). RunKept a most p (lentFrom counts stores) choice y lending results′ scratch scratch′) f j in
     record {
       returned = returned-is runNumbers r answer answer′ _ _ (k .answer) t;

@@ -4,13 +4,13 @@ use mathlib.Core.Bool.{cond}
 use mathlib.Core.List.{List}
 use mathlib.Core.Path.{_≡_}
 use Prim.Native.Nat.{ℕ}
-use lib.Dec.{leb}
+use lib.Dec.{eqb, leb}
 use lib.ListN.{length, replicate}
 use Rattle.lists.specs.Functions.{padded}
 use Rattle.foundation.specs.Pattern.{Lent}
 use Rattle.foundation.specs.PlanCall.{PlanStores, LentPlan, planned, planAnswer, planLeaves, held}
 use Rattle.foundation.specs.Printing.{printed}
-use Rattle.foundation.specs.Reference.{Choice, Extent}
+use Rattle.foundation.specs.Reference.{Choice, largest, listed, Extent}
 use Rattle.foundation.specs.RunCall.{Lending, RunStores, ran, runAnswer, runLeaves}
 use Rattle.foundation.specs.Tally.{tallyAnswer}
 use Rattle.answers.specs.Answers.{verifyAnswer}
@@ -21,6 +21,10 @@ use Rattle.numbers.specs.Numbered.{refusalNumber, planNumbers, verifyNumbers, r
 -- a lent plan, its counts given as numbers
 abbrev pub lentFrom : List ℕ → PlanStores → LentPlan
 lentFrom counts stores = record { counts = countsFrom counts; stores = stores }
+
+-- Document 01, "Elimination": "the pivot row is the one with the largest magnitude in column k (..); or row p_k of a given list": by the largest where `byList` is 0
+unfoldable pub choiceFrom : ℕ → List ℕ → Choice
+choiceFrom byList rows = cond (eqb byList 0) largest (listed rows)
 
 pub record PlanTold (r most : ℕ) (p : Lent) (stores stores′ : PlanStores) (scratch scratch′ : WorkStores) (answer answer′ : List ℕ) : Type 0 where
   -- 0, or the refusal's number

@@ -2,9 +2,9 @@
 //
 // In C a slice is a pointer and then its length in elements. Every function takes any lengths and any numbers, and has the contract of the call that it makes;
 // the answer is told in numbers, in the store `answer` and by what is returned. docs/CALLS.md has a table for each function.
-pub mod by_largest;
-pub mod by_list;
+mod choices;
 pub mod planned;
 pub mod printed;
+pub mod ran;
 pub mod tallied;
 pub mod verified;

@@ -60,7 +60,7 @@ fn read_numbers(store: &mut [f64], head: &[usize; HEAD], at: usize) -> bool {
     words::fill_numbers(&mut store[0..asked])
 }
 
-// Reads and lends the plan's stores.
+// Reads and lends the plan's stores. All are read, whether one before had its numbers or not: a function without those branches is cheaper to prove.
 fn lend_plan(head: &[usize; HEAD], starts: &[usize], columns: &[usize]) -> bool {
     let mut l_subs = [BEFORE; SUBSCRIPTS];
     let mut l_starts = [BEFORE; PLACES];
@@ -68,16 +68,14 @@ fn lend_plan(head: &[usize; HEAD], starts: &[usize], columns: &[usize]) -> bool 
     let mut u_subs = [BEFORE; SUBSCRIPTS];
     let mut u_starts = [BEFORE; PLACES];
     let mut u_slots = [BEFORE; PLACES];
-    if !read(&mut l_subs, head, 11)
-        || !read(&mut l_starts, head, 12)
-        || !read(&mut l_slots, head, 13)
-    {
-        return false;
-    }
-    if !read(&mut u_subs, head, 14)
-        || !read(&mut u_starts, head, 15)
-        || !read(&mut u_slots, head, 16)
-    {
+    let lower = read(&mut l_subs, head, 11)
+        & read(&mut l_starts, head, 12)
+        & read(&mut l_slots, head, 13);
+    let upper = read(&mut u_subs, head, 14)
+        & read(&mut u_starts, head, 15)
+        & read(&mut u_slots, head, 16);
+    let all = lower & upper;
+    if !all {
         return false;
     }
     lend_numbers(
@@ -108,10 +106,10 @@ fn lend_numbers(
     let mut rows = [BEFORE; PLACES];
     let mut values = [1.5; ENTRIES];
     let mut right = [1.5; PLACES];
-    if !read(&mut rows, head, 17)
-        || !read_numbers(&mut values, head, 18)
-        || !read_numbers(&mut right, head, 19)
-    {
+    let all = read(&mut rows, head, 17)
+        & read_numbers(&mut values, head, 18)
+        & read_numbers(&mut right, head, 19);
+    if !all {
         return false;
     }
     runs::verify_and_run(
@@ -135,7 +133,8 @@ fn lend_numbers(
 fn lend_pattern(head: &[usize; HEAD]) -> bool {
     let mut starts = [BEFORE; PLACES];
     let mut columns = [BEFORE; ENTRIES];
-    if !read(&mut starts, head, 2) || !read(&mut columns, head, 3) {
+    let all = read(&mut starts, head, 2) & read(&mut columns, head, 3);
+    if !all {
         return false;
     }
     lend_plan(head, front(&starts, head, 2), front(&columns, head, 3))

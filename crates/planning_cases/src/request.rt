@@ -17,12 +17,30 @@ const PLACES: usize = 1_040;
 // What every lent place holds before the call. It is not zero, so that a store which the call left alone shows.
 const BEFORE: usize = 54_321;
 
-// The first `asked` places of a store, or all of a shorter one: `fits` has shown that it is not shorter.
-fn front(store: &mut [usize], asked: usize) -> &mut [usize] {
+// A head word.
+fn word(head: &[usize; HEAD], at: usize) -> usize {
+    if HEAD <= at {
+        return 0;
+    }
+    head[at]
+}
+
+// The first places of a store, as many as a head word asks for, or all of a shorter one: `fits` has shown that it is not shorter. These functions take the
+// head and the word's place, so that the function below, which lends a dozen stores, has few steps for each: a long function is dear to prove.
+fn front<'a>(store: &'a mut [usize], head: &[usize; HEAD], at: usize) -> &'a mut [usize] {
+    let asked = word(head, at);
     if store.len() < asked {
         return store;
     }
     &mut store[0..asked]
+}
+
+fn part<'a>(store: &'a [usize], head: &[usize; HEAD], at: usize) -> &'a [usize] {
+    let asked = word(head, at);
+    if store.len() < asked {
+        return store;
+    }
+    &store[0..asked]
 }
 
 // The longest length that head word `at` may give; `most` and n are no lengths, and any word will do.
@@ -47,22 +65,9 @@ fn fits(head: &[usize]) -> bool {
     true
 }
 
-// Whether all six work stores are zero throughout.
-fn are_zero(
-    row_heads: &[usize],
-    row_links: &[usize],
-    set_heads: &[usize],
-    set_links: &[usize],
-    list: &[usize],
-    spare: &[usize],
-) -> bool {
-    let rows = show::is_zero(row_heads) && show::is_zero(row_links);
-    let sets = show::is_zero(set_heads) && show::is_zero(set_links);
-    rows && sets && show::is_zero(list) && show::is_zero(spare)
-}
-
 // Shows the two sides' stores.
 fn show_results(
+    head: &[usize; HEAD],
     l_subs: &[usize],
     l_starts: &[usize],
     l_slots: &[usize],
@@ -70,57 +75,36 @@ fn show_results(
     u_starts: &[usize],
     u_slots: &[usize],
 ) {
-    show::store(b"l_subs", l_subs);
-    show::store(b"l_starts", l_starts);
-    show::store(b"l_slots", l_slots);
-    show::store(b"u_subs", u_subs);
-    show::store(b"u_starts", u_starts);
-    show::store(b"u_slots", u_slots);
+    show::store(b"l_subs", part(l_subs, head, 4));
+    show::store(b"l_starts", part(l_starts, head, 6));
+    show::store(b"l_slots", part(l_slots, head, 7));
+    show::store(b"u_subs", part(u_subs, head, 5));
+    show::store(b"u_starts", part(u_starts, head, 8));
+    show::store(b"u_slots", part(u_slots, head, 9));
 }
 
-// Plans the pattern in the lent stores, and shows all of them.
-fn planned(
+// Whether the first places of a store, as many as a head word asks for, are zero.
+fn zero(store: &[usize], head: &[usize; HEAD], at: usize) -> bool {
+    show::is_zero(part(store, head, at))
+}
+
+// Shows whether all six work stores are zero throughout.
+fn show_work(
     head: &[usize; HEAD],
-    starts: &[usize],
-    columns: &[usize],
-    l_subs: &mut [usize],
-    l_starts: &mut [usize],
-    l_slots: &mut [usize],
-    u_subs: &mut [usize],
-    u_starts: &mut [usize],
-    u_slots: &mut [usize],
-    row_heads: &mut [usize],
-    row_links: &mut [usize],
-    set_heads: &mut [usize],
-    set_links: &mut [usize],
-    list: &mut [usize],
-    spare: &mut [usize],
+    row_heads: &[usize],
+    row_links: &[usize],
+    set_heads: &[usize],
+    set_links: &[usize],
+    list: &[usize],
+    spare: &[usize],
 ) {
-    let answer = planning::plan(
-        head[0],
-        head[1],
-        starts,
-        columns,
-        l_subs,
-        l_starts,
-        l_slots,
-        u_subs,
-        u_starts,
-        u_slots,
-        row_heads,
-        row_links,
-        set_heads,
-        set_links,
-        list,
-        spare,
-    );
-    show::answer(answer);
-    show_results(l_subs, l_starts, l_slots, u_subs, u_starts, u_slots);
-    show::work(are_zero(row_heads, row_links, set_heads, set_links, list, spare));
+    let rows = zero(row_heads, head, 10) & zero(row_links, head, 11);
+    let sets = zero(set_heads, head, 12) & zero(set_links, head, 13);
+    show::work(rows & sets & zero(list, head, 14) & zero(spare, head, 15));
 }
 
-// Lends the stores: parts of arrays of its own, of the lengths that the head asks for.
-fn lend_stores(head: &[usize; HEAD], starts: &[usize], columns: &[usize]) {
+// Plans the pattern in parts of arrays of its own, of the lengths that the head asks for, and shows all of them.
+fn plan(head: &[usize; HEAD], starts: &[usize], columns: &[usize]) {
     let mut l_subs = [BEFORE; SUBSCRIPTS];
     let mut l_starts = [BEFORE; PLACES];
     let mut l_slots = [BEFORE; PLACES];
@@ -133,22 +117,42 @@ fn lend_stores(head: &[usize; HEAD], starts: &[usize], columns: &[usize]) {
     let mut set_links = [BEFORE; PLACES];
     let mut list = [BEFORE; PLACES];
     let mut spare = [BEFORE; PLACES];
-    planned(
-        head,
+    let answer = planning::plan(
+        word(head, 0),
+        word(head, 1),
         starts,
         columns,
-        front(&mut l_subs, head[4]),
-        front(&mut l_starts, head[6]),
-        front(&mut l_slots, head[7]),
-        front(&mut u_subs, head[5]),
-        front(&mut u_starts, head[8]),
-        front(&mut u_slots, head[9]),
-        front(&mut row_heads, head[10]),
-        front(&mut row_links, head[11]),
-        front(&mut set_heads, head[12]),
-        front(&mut set_links, head[13]),
-        front(&mut list, head[14]),
-        front(&mut spare, head[15]),
+        front(&mut l_subs, head, 4),
+        front(&mut l_starts, head, 6),
+        front(&mut l_slots, head, 7),
+        front(&mut u_subs, head, 5),
+        front(&mut u_starts, head, 8),
+        front(&mut u_slots, head, 9),
+        front(&mut row_heads, head, 10),
+        front(&mut row_links, head, 11),
+        front(&mut set_heads, head, 12),
+        front(&mut set_links, head, 13),
+        front(&mut list, head, 14),
+        front(&mut spare, head, 15),
+    );
+    show::answer(answer);
+    show_results(
+        head,
+        &l_subs,
+        &l_starts,
+        &l_slots,
+        &u_subs,
+        &u_starts,
+        &u_slots,
+    );
+    show_work(
+        head,
+        &row_heads,
+        &row_links,
+        &set_heads,
+        &set_links,
+        &list,
+        &spare,
     );
 }
 
@@ -160,7 +164,7 @@ fn read_pattern(head: &[usize; HEAD], starts: &mut [usize], columns: &mut [usize
     if words::fill(columns) < columns.len() {
         return false;
     }
-    lend_stores(head, starts, columns);
+    plan(head, starts, columns);
     true
 }
 
@@ -170,8 +174,8 @@ fn lend_pattern(head: &[usize; HEAD]) -> bool {
     let mut columns = [BEFORE; COLUMNS];
     read_pattern(
         head,
-        front(&mut starts, head[2]),
-        front(&mut columns, head[3]),
+        front(&mut starts, head, 2),
+        front(&mut columns, head, 3),
     )
 }
 

@@ -1,11 +1,13 @@
--- `dalumiveth_run_listed` meets its contract: counts and extent are read, the run answers, then the answer is told.
-use Rattle.elimination.specs.Calls.{chosenBy}
+-- `dalumiveth_run` meets its contract: counts, choice and extent are read, the run answers, then the answer is told.
 use Rattle.dalumiveth.proofs.Telling.{run-told}
-use Rattle.dalumiveth.proofs.by_list.dalumiveth_run_listed.Statement.{statement}
-use Rattle.dalumiveth.proofs.by_list.dalumiveth_run_listed.Tie as tie
+use Rattle.dalumiveth.proofs.ran.dalumiveth_run.Statement.{statement}
+use Rattle.dalumiveth.proofs.ran.dalumiveth_run.Tie as tie
 
 counts-from-requires : tie.Need-counts-from-requires
 counts-from-requires c κs = tt
+
+choice-from-requires : tie.Need-choice-from-requires
+choice-from-requires c κs = tt
 
 extent-from-requires : tie.Need-extent-from-requires
 extent-from-requires c κs = tt
@@ -59,14 +61,14 @@ same-length-14 : tie.Need-same-length-14
 same-length-14 c = c .before .before .tell-run .kept .1 .0
 
 returns : tie.Need-returns
-unfolding chosenBy
-returns c = run-told _ _ _ _ _ _ _ _ _ _ _ _ _ _ _ _ (c .before .before .before .before .before .before .before .before .before .before .before .before .before .before .before .before .before .before .before .before .before .before .before .before .before .before .before .before .before .before .before .before .before .before .before .before .before .before .before .before .before .before .before .before .before .counts-from .ensures) (c .before .before .before .before .before .before .before .before .before .before .before .before .before .before .before .before .before .before .before .before .before .before .before .before .before .before .before .before .before .before .before .before .before .before .before .before .before .before .before .before .before .before .before .before .extent-from .ensures) (c .before .before .before .before .before .before .before .before .before .before .before .before .before .before .before .before .before .before .before .before .before .before .before .before .before .before .before .before .before .before .run .ensures) (c .before .before .tell-run .ensures)
+returns c = run-told _ _ _ _ _ _ _ _ _ _ _ _ _ _ _ _ _ _ (c .before .before .before .before .before .before .before .before .before .before .before .before .before .before .before .before .before .before .before .before .before .before .before .before .before .before .before .before .before .before .before .before .before .before .before .before .before .before .before .before .before .before .before .before .before .before .counts-from .ensures) (c .before .before .before .before .before .before .before .before .before .before .before .before .before .before .before .before .before .before .before .before .before .before .before .before .before .before .before .before .before .before .before .before .before .before .before .before .before .before .before .before .before .before .before .before .before .choice-from .ensures _) (c .before .before .before .before .before .before .before .before .before .before .before .before .before .before .before .before .before .before .before .before .before .before .before .before .before .before .before .before .before .before .before .before .before .before .before .before .before .before .before .before .before .before .before .before .extent-from .ensures) (c .before .before .before .before .before .before .before .before .before .before .before .before .before .before .before .before .before .before .before .before .before .before .before .before .before .before .before .before .before .before .run .ensures) (c .before .before .tell-run .ensures)
 
-pub dalumiveth-run-listed-spec : {M : Type 1} → statement M
-dalumiveth-run-listed-spec =
+pub dalumiveth-run-spec : {M : Type 1} → statement M
+dalumiveth-run-spec =
     tie.close
     (tie.spec
     counts-from-requires
+    choice-from-requires
     extent-from-requires
     run-requires
     tell-run-requires

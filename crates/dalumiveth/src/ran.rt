@@ -1,20 +1,20 @@
-// `elimination::run` by a given list, for callers in other languages.
+// `elimination::run` for callers in other languages.
 ghost use Rattle.foundation.specs.Pattern.{lent};
-ghost use Rattle.foundation.specs.Reference.{listed};
 ghost use Rattle.answers.specs.RunStores.{lendingOf, runStores};
 ghost use Rattle.answers.specs.Stores.{planStores};
 ghost use Rattle.elimination.specs.Calls.{runWork};
 ghost use Rattle.numbers.specs.Numbered.{extentFrom};
-ghost use Rattle.dalumiveth.specs.Calls.{lentFrom, RunTold};
-use elimination::PivotChoice;
+ghost use Rattle.dalumiveth.specs.Calls.{choiceFrom, lentFrom, RunTold};
+use crate::choices::choice_from;
 use elimination::run;
 use numbers::counts_from;
 use numbers::extent_from;
 use numbers::tell_run;
 
-// A run by a given list of rows (`elimination::run`), else as `dalumiveth_run_largest`.
+// A run (`elimination::run`): by the largest entry where `by_list` is 0, else by the rows given; whole where `cut` is 0, else its first `steps` steps.
+// Three numbers: 0, 0 and the updates, or the refusal's number and step.
 #[no_mangle]
-pub extern "C" fn dalumiveth_run_listed(
+pub extern "C" fn dalumiveth_run(
     most: usize,
     n: usize,
     starts: &[usize],
@@ -28,6 +28,7 @@ pub extern "C" fn dalumiveth_run_listed(
     u_slots: &[usize],
     values: &[f64],
     right: &[f64],
+    by_list: usize,
     rows: &[usize],
     cut: usize,
     steps: usize,
@@ -48,13 +49,14 @@ pub extern "C" fn dalumiveth_run_listed(
 ) -> usize
     ensures { λ r. ⌜ RunTold r most (lent n (now (starts .entry)) (now (columns .entry)))
         (lentFrom (now (counts .entry)) (planStores (now («l_subs» .entry)) (now («l_starts» .entry)) (now («l_slots» .entry)) (now («u_subs» .entry)) (now («u_starts» .entry)) (now («u_slots» .entry))))
-        (listed (now (rows .entry))) (extentFrom cut steps) (lendingOf (now (values .entry)) (now (right .entry)) (now (l .entry)) (now (u .entry)) (now (d .entry)) (now (x .entry)) (now (pivots .entry)))
+        (choiceFrom «by_list» (now (rows .entry))) (extentFrom cut steps) (lendingOf (now (values .entry)) (now (right .entry)) (now (l .entry)) (now (u .entry)) (now (d .entry)) (now (x .entry)) (now (pivots .entry)))
         (runStores (now (l .exit)) (now (u .exit)) (now (d .exit)) (now (x .exit)) (now (pivots .exit)))
         (runWork (now («row_heads» .entry)) (now («row_links» .entry)) (now («set_heads» .entry)) (now («set_links» .entry)) (now (list .entry)) (now (spare .entry)) (now (copy .entry)) (now (dense .entry)))
         (runWork (now («row_heads» .exit)) (now («row_links» .exit)) (now («set_heads» .exit)) (now («set_links» .exit)) (now (list .exit)) (now (spare .exit)) (now (copy .exit)) (now (dense .exit)))
         (now (answer .entry)) (now (answer .exit)) ⌝ }
 {
     let plan_counts = counts_from(counts);
+    let choice = choice_from(by_list);
     let extent = extent_from(cut, steps);
     let answered = run(
         most,
@@ -70,7 +72,7 @@ pub extern "C" fn dalumiveth_run_listed(
         u_slots,
         values,
         right,
-        PivotChoice::Listed,
+        choice,
         rows,
         extent,
         l,
