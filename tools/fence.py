@@ -20,7 +20,7 @@ PARTS = {
                  "inner_planning", "inner_verifying"],
     "elimination": ["inner_slots", "inner_choosing", "inner_exchange", "inner_stretches", "inner_sides", "inner_column", "inner_steps", "inner_loading", "inner_solving",
                     "inner_asking", "inner_judging", "inner_clearing", "inner_running", "inner_answering"],
-    "job": ["inner_printing", "inner_operands", "inner_commands", "inner_standing", "inner_reading", "inner_lending"],
+    "job": ["inner_printing", "inner_reporting", "inner_operands", "inner_commands", "inner_standing", "inner_reading", "inner_lending"],
 }
 
 

@@ -1,4 +1,5 @@
-// A job's plan and its run, with work stores of their own: four of 129 places and two of 128 for the plan, two more for the run, each lent as far as n asks.
+// A job's plan and its run, in stores of their own, and what is printed of them. Here the work stores: four of 129 places and two of 128 for the plan, two more
+// for the run, each lent as far as n asks.
 ghost use mathlib.Core.Path.{_≡_};
 ghost use Prim.Native.Nat.{_≤_};
 ghost use Rattle.foundation.specs.Job.{choiceOf};
@@ -6,6 +7,9 @@ ghost use Rattle.foundation.specs.Pattern.{lent};
 ghost use Rattle.answers.specs.Stores.{planStores, lentPlan};
 ghost use Rattle.elimination.specs.Calls.{chosenBy};
 ghost use Rattle.inner_lending.specs.Lending.{PlanSized, JobPlanned, RunSized, JobRan};
+
+mod runs;
+
 use answers::Extent;
 use answers::PlanAnswer;
 use answers::PlanCounts;
@@ -13,9 +17,10 @@ use answers::RunAnswer;
 use elimination::PivotChoice;
 use elimination::run;
 use planning::plan;
+pub use runs::put_plan;
 
 // The plan of a job's pattern.
-pub fn plan_job(
+fn plan_job(
     n: usize,
     starts: &[usize],
     columns: &[usize],
@@ -69,7 +74,7 @@ fn choice_for(rows: &[usize]) -> PivotChoice
 }
 
 // A job's run.
-pub fn run_job(
+fn run_job(
     n: usize,
     starts: &[usize],
     columns: &[usize],

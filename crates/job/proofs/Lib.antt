@@ -1,5 +1,3 @@
 -- Laws of the way from a job's bytes to its answer.
 pub mod Filled
-pub mod Planned
-pub mod Ending
 pub mod Texts

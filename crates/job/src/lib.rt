@@ -4,7 +4,6 @@ ghost use lib.ListN.{length};
 ghost use Rattle.lists.specs.Functions.{padded};
 ghost use Rattle.foundation.specs.Printing.{printed};
 
-mod runs;
 mod whole;
 
 // The bytes that are printed, and how many they are; the rest is zero.

@@ -5,7 +5,7 @@ ghost use Rattle.foundation.specs.Answer.{granted};
 ghost use Rattle.foundation.specs.Printing.{printed, jobText};
 ghost use Rattle.inner_printing.specs.Appended.{Appended};
 ghost use Rattle.inner_reading.specs.Read.{storesOf, Sized, jobIn, Inside};
-use crate::runs::put_plan;
+use inner_lending::put_plan;
 use inner_printing::put_refused;
 use inner_reading::JobRead;
 use inner_reading::Sizes;

@@ -1,7 +1,7 @@
--- How a job's run ended: what its answer and its stores say of it.
+-- How a job's run ended, if it is finished: what its stores say of it.
 use mathlib.Core.Bool.{Bool, true, false, not}
 use mathlib.Core.List.{List, map}
-use mathlib.Core.Path.{_≡_, refl, sym, ap, _∙_}
+use mathlib.Core.Path.{_≡_, sym, ap, _∙_}
 use Prim.Native.Nat.{ℕ}
 use native.Mathlib.Omega.{arith}
 use lib.Ieee.{Float}
@@ -16,9 +16,9 @@ use Rattle.foundation.specs.Pattern.{Lent, patternOf}
 use Rattle.foundation.specs.Plan.{Planning}
 use Rattle.foundation.specs.Printing.{jobStores, jobLending, jobRun}
 use Rattle.foundation.specs.Reference.{Choice, Extent, whole, Course, going, stopped, stepsOf, reference}
-use Rattle.foundation.specs.RunCall.{Lending, lendingFits, allFinite, orderFits, valueAt, rightAt, Ran, courseAnswer, ranWith, runAnswer, solutionAfter, pivotsAfter}
+use Rattle.foundation.specs.RunCall.{Lending, lendingFits, allFinite, orderFits, valueAt, rightAt, Ran, courseAnswer, ranWith, solutionAfter, pivotsAfter}
 use Rattle.foundation.proofs.FloatRun.{pivots-length, reference-keeps}
 use Rattle.inner_lending.specs.Lending.{jobPlan}
 
 -- a test that passed
 passed : {A : Type 0} (fails : Bool) (number : ℕ) (later : Answer A) (a : A) → refuseIf fails number later ≡ granted a → later ≡ granted a
@@ -59,20 +59,6 @@ then-went job (granted s) r e =
 pub went : (job : Job) (r : Ran) → jobRun job ≡ granted r → Went job r
 unfolding jobRun jobPlan jobStores
 went job r e = let (a, b) = then-went job _ r e in record { planned-so = a; a-row-a-step = b }
-
--- ---- the answer
-
--- a run that was answered with its updates is finished
-pub finished : (a : Answer Ran) (updates : ℕ) → granted updates ≡ runAnswer a → (r : Ran) × (a ≡ granted r) × (updates ≡ r .end .updates)
-unfolding runAnswer andThen
-finished (refused number step) updates e = let z : _≡_ {A = ℕ} 0 1 = cc in absurd (omega arith)
-finished (granted r) updates e = (r, refl, cc)
-
--- one that was answered with a refusal was refused
-pub halted : (a : Answer Ran) (number step : ℕ) → refused number step ≡ runAnswer a → a ≡ refused number step
-unfolding runAnswer andThen
-halted (refused n s) number step e = cc
-halted (granted r) number step e = let z : _≡_ {A = ℕ} 0 1 = cc in absurd (omega arith)
 
 -- ---- the stores
 

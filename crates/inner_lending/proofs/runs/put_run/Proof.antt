@@ -1,8 +1,8 @@
 -- `put_run` meets its contract.
-use Rattle.job.proofs.Filled.{run-sized}
+use Rattle.inner_lending.proofs.Arrays.{run-sized}
 use borrow.Author.Needs.{needs}
-use Rattle.job.proofs.runs.put_run.Statement.{statement}
-use Rattle.job.proofs.runs.put_run.Tie as tie
+use Rattle.inner_lending.proofs.runs.put_run.Statement.{statement}
+use Rattle.inner_lending.proofs.runs.put_run.Tie as tie
 
 slice-aggregate-put-run-in : tie.Need-slice-aggregate-put-run-in
 slice-aggregate-put-run-in c = search needs

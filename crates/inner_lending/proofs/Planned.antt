@@ -17,9 +17,9 @@ use Rattle.answers.specs.declared.PlanCounts.{PlanCounts}
 use Rattle.answers.specs.declared.PlanAnswer.{PlanAnswer}
 use Rattle.answers.specs.declared.PlanAnswer.the-variants.{Planned, Refused}
 use Rattle.answers.specs.declared.Refusal.{Refusal}
 use Rattle.inner_lending.specs.Lending.{jobPlan, JobPlanned, lentFor, jobRan}
 use Rattle.inner_lending.proofs.Fronts.{fitting-fits}
-use Rattle.job.specs.Answering.{PlanMade}
+use Rattle.inner_lending.specs.Answering.{PlanMade}
 
 -- a planning call that answers with counts made the plan
 pub plan-made : (p : Lent) (stores : PlanStores) (r : PlanAnswer) (counts : PlanCounts) → JobPlanned r p stores → r ≡ Planned counts → PlanMade p counts stores

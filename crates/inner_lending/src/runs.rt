@@ -6,17 +6,14 @@ ghost use Rattle.foundation.specs.Pattern.{lent};
 ghost use Rattle.foundation.specs.Printing.{jobText};
 ghost use Rattle.answers.specs.Stores.{planStores};
 ghost use Rattle.inner_printing.specs.Appended.{Appended};
 ghost use Rattle.inner_lending.specs.Lending.{PlanSized, RunSized};
-ghost use Rattle.job.specs.Answering.{jobFrom, PlanMade};
+ghost use Rattle.inner_lending.specs.Answering.{jobFrom, PlanMade};
+use crate::plan_job;
+use crate::run_job;
 use answers::PlanAnswer;
 use answers::PlanCounts;
-use answers::RunOutcome;
-use inner_lending::plan_job;
-use inner_lending::run_job;
-use inner_printing::put_refused;
-use inner_printing::put_report;
-use numbers::number_of;
-use numbers::tell;
+use inner_reporting::put_plan_refused;
+use inner_reporting::put_ran;
 
 // The run on a plan that was made, and its report or its refusal.
 fn put_run_in(
@@ -68,22 +65,7 @@ fn put_run_in(
         x,
         pivots,
     );
-    let outcome = answer.outcome;
-    match outcome {
-        RunOutcome::Finished(updates) => {
-            let line = [
-                counts.n,
-                counts.entries,
-                counts.l_subscripts,
-                counts.u_subscripts,
-                counts.l_slots,
-                counts.u_slots,
-                counts.reads,
-            ];
-            put_report(out, &line, pivots, x, updates)
-        }
-        RunOutcome::Stopped(reason, step) => put_refused(out, number_of(reason), step),
-    }
+    put_ran(out, counts, answer, pivots, x)
 }
 
 // The same, in result stores of its own: 2,048 slots a side.
@@ -172,10 +154,7 @@ fn put_plan_in(
         u_slots,
     );
     match answer {
-        PlanAnswer::Refused(refusal) => {
-            let told = tell(refusal);
-            put_refused(out, told.number, told.step)
-        }
+        PlanAnswer::Refused(refusal) => put_plan_refused(out, refusal),
         PlanAnswer::Planned(counts) => put_run(
             out,
             n,

@@ -1,0 +1,2 @@
+-- What is to be reported of a run.
+pub mod Reported

@@ -1,2 +1,0 @@
--- What the steps from bytes to bytes hand on.
-pub mod Answering
