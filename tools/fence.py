@@ -18,8 +18,8 @@ import sys
 PARTS = {
     "planning": ["inner_searching", "inner_stores", "inner_patterns", "inner_gathering", "inner_sharing", "inner_appending", "inner_step", "inner_comparing",
                  "inner_planning", "inner_verifying"],
-    "elimination": ["inner_slots", "inner_choosing", "inner_exchange", "inner_stretches", "inner_sides", "inner_column", "inner_steps", "inner_loading", "inner_solving",
-                    "inner_asking", "inner_judging", "inner_clearing", "inner_running", "inner_answering"],
+    "elimination": ["inner_slots", "inner_choosing", "inner_trading", "inner_exchange", "inner_stretches", "inner_sides", "inner_column", "inner_steps", "inner_loading",
+                    "inner_solving", "inner_asking", "inner_judging", "inner_clearing", "inner_running", "inner_answering"],
     "job": ["inner_printing", "inner_reporting", "inner_operands", "inner_commands", "inner_standing", "inner_reading", "inner_lending"],
 }
 

@@ -15,13 +15,13 @@ use Rattle.foundation.specs.Square.{Square}
 use Rattle.foundation.specs.Subscripts.{kept}
 use Rattle.inner_slots.specs.Shows.{ShowsAll}
 use Rattle.inner_slots.proofs.Grid.{above}
+use Rattle.inner_slots.proofs.Small.{next-le}
 use Rattle.inner_exchange.specs.Exchange.{rowAt, ExchangeAsks, ExchangeLeaves}
-use Rattle.inner_exchange.specs.Places.{ListAsks, ListLeaves, SlotOf}
-use Rattle.inner_exchange.specs.Trading.{Traded, BeforeAsks, BeforeLeaves, BeyondAsks, BeyondLeaves}
-use Rattle.inner_exchange.proofs.Columns.{first-column, own-column}
-use Rattle.inner_exchange.proofs.Puts.{lower-inside, upper-inside, diagonal-size, rights-size}
+use Rattle.inner_trading.specs.Places.{ListAsks, ListLeaves, SlotOf}
+use Rattle.inner_trading.specs.Trading.{Traded, BeforeAsks, BeforeLeaves, BeyondAsks, BeyondLeaves}
+use Rattle.inner_trading.proofs.Columns.{first-column, own-column}
+use Rattle.inner_trading.proofs.Puts.{lower-inside, upper-inside, diagonal-size, rights-size}
 use Rattle.inner_exchange.proofs.Rights.{right-exchanged, exchange-done}
-use Rattle.inner_exchange.proofs.Walks.{next-le}
 
 pub some-done : (t : ℕ) → 1 ≤ t + 1
 some-done t = omega arith

@@ -23,8 +23,8 @@ use Rattle.inner_slots.specs.Index.{Grid}
 use Rattle.inner_slots.specs.Shows.{ShowsAll}
 use Rattle.inner_slots.proofs.Exchange.{exchanged-left, exchanged-first, exchanged-second, exchanged-others}
 use Rattle.inner_slots.proofs.Grid.{no-slot-upper}
-use Rattle.inner_exchange.specs.Trading.{columnsOf, Traded}
-use Rattle.inner_exchange.proofs.Puts.{upto-read, upto-set, shows-all-same}
+use Rattle.inner_trading.specs.Trading.{columnsOf, Traded}
+use Rattle.inner_trading.proofs.Puts.{upto-read, upto-set, shows-all-same}
 
 -- two places of the right side changed are two rows exchanged
 pub right-exchanged : (right : ℕ → Float) (n k p : ℕ) (x : List Float) → x ≡ map right (upto n) → 1 ≤ k → k < p → p ≤ n

@@ -1,4 +1,2 @@
--- What the contracts of the exchange cite.
-pub mod Places
-pub mod Trading
+-- What the contract of the exchange cites.
 pub mod Exchange

@@ -1,19 +1,13 @@
-// The exchange of rows in the slots.
-//
-// `exchange` brings a step's pivot row to row k. Everything else stands in modules that no other crate can name.
+// The exchange of rows in the slots: `exchange` brings a step's pivot row to row k.
 ghost use Rattle.inner_exchange.specs.Exchange.{ExchangeAsks, ExchangeLeaves};
-
-mod places;
-mod trading;
-
 use answers::SlotPlace;
 use answers::SubscriptPlace;
-use places::list_place;
-use places::seat;
-use trading::trade;
-use trading::trade_before;
-use trading::trade_beyond;
-use trading::trade_within;
+use inner_trading::list_place;
+use inner_trading::seat;
+use inner_trading::trade;
+use inner_trading::trade_before;
+use inner_trading::trade_beyond;
+use inner_trading::trade_within;
 
 // Rows k and p change places in columns k to n and in the right side; p is the member of L_k at `place`. Only k and the columns of U_k are
 // touched: in all others both rows hold +0. Row k lies on the diagonal and in U_k; row p lies in L before its diagonal and in U_p beyond it.

@@ -29,12 +29,13 @@ use Rattle.inner_slots.specs.Shows.{Shows}
 use Rattle.inner_slots.proofs.Flags.{flagged-more}
 use Rattle.inner_slots.proofs.Mapped.{map-cong}
 use Rattle.inner_slots.proofs.Places.{ascending-at}
-use Rattle.inner_slots.proofs.Shows.{part, slots-step, part-inside, shows-part, shows-write, shows-same}
+use Rattle.inner_slots.proofs.Shows.{part, slots-step, shows-part, shows-write, shows-same}
 use Rattle.inner_stretches.specs.Stretches.{UpTo, reducedAll, gathered, Below}
 use Rattle.inner_stretches.specs.Crossing.{Crossing, Shared}
 use Rattle.inner_sides.specs.Heads.{HeadsAsk, HeadsLeave}
 use Rattle.inner_stretches.proofs.Reducing.{length-gathered}
 use Rattle.inner_stretches.proofs.Crossings.{shared-cell}
+use Rattle.inner_sides.proofs.Lending.{Numbers, numbers}
 use Rattle.inner_stretches.proofs.Within.{ascending-drop, drop-from, in-drop, not-before, member-snoc, member-snoc-other}
 
 -- the first s members are no greater than any head from t on
@@ -52,12 +53,6 @@ under-next b t s heads over h l up q a u r m = omega (arith, up r m, ascending-a
 pub under-at : (t s : ℕ) (heads over : List ℕ) → Under t s heads over → t < length heads → UpTo (getD heads t 0) s over
 unfolding Under
 under-at t s heads over h l = h t (omega arith) l
-
-pub less : (n t : ℕ) → t < n → n - (t + 1) < n - t
-less n t l = omega arith
-
-pub next-le : (n t : ℕ) → t < n → t + 1 ≤ n
-next-le n t l = omega arith
 
 -- ---- a square of which some lists are done
 
@@ -256,19 +251,6 @@ module _ (y₀ : List Float) (subs starts slots heads over : List ℕ) (factors 
     pub cell-fits : (s′ : ℕ) → s′ ≤ length over → opening + s′ ≤ length subs
     cell-fits s′ u = omega (arith, w .inside)
 
-    -- the code's indices
-    pub index-low : getD heads t 0 - 1 < length slots
-    index-low = omega (arith, low, high, w .index .places)
-
-    pub index-high : getD heads t 0 < length slots
-    index-high = omega (arith, low, high, w .index .places)
-
-    pub index-start : getD heads t 0 - 1 < length starts
-    index-start = omega (arith, low, high, w .index .started)
-
-    pub ends : (getD slots (getD heads t 0 - 1) 0 ≤ getD slots (getD heads t 0) 0) × (getD slots (getD heads t 0) 0 ≤ length y)
-        × (getD starts (getD heads t 0 - 1) 0 + (getD slots (getD heads t 0) 0 - getD slots (getD heads t 0 - 1) 0) ≤ length subs)
-    ends =
-        let p = part-inside (w .s) (w .side) (w .n) (blend (w .side) (take t heads) (w .new) (w .old)) y (h .shows) (getD heads t 0) low high in
-        let a = first-is in let b = w .index .slot (getD heads t 0) high in let c = slots-step (w .s) (w .side) (w .n) (getD heads t 0) low in
-        (omega arith, omega arith, rw size-is (w .index .inside (getD heads t 0) low high))
+    -- what the code takes from the index stores
+    pub head-numbers : Numbers y subs starts slots (getD heads t 0)
+    head-numbers = numbers (w .s) (w .side) (w .n) subs starts slots (w .index) (getD heads t 0) low high (blend (w .side) (take t heads) (w .new) (w .old)) y (h .shows)

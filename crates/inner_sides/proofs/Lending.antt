@@ -1,8 +1,10 @@
 -- The parts that the code lends of a side's stores for one of its lists: its subscripts, its slots, and the store with those slots written anew.
 use mathlib.Core.List.{List, _++_, map}
 use mathlib.Core.Path.{_≡_}
-use Prim.Native.Nat.{ℕ, _+_, _-_, _≤_, _<_}
+use Prim.Native.Nat.{ℕ, _+_, _-_, _*_, _^_, _≤_, _<_}
 use native.Mathlib.Omega.{arith}
+use mir.Syntax.{w64}
+use mir.Val.{Fits}
 use lib.Ieee.{Float}
 use lib.ListN.{length, getD, take, drop}
 use Rattle.foundation.specs.Plan.{Planning, Side}
@@ -39,6 +41,30 @@ pub record Numbers (y : List Float) (subs starts slots : List ℕ) (k : ℕ) : T
   pub rises : getD slots (k - 1) 0 ≤ getD slots k 0
   pub ends : getD slots k 0 ≤ length y
   pub subs-end : getD starts (k - 1) 0 + (getD slots k 0 - getD slots (k - 1) 0) ≤ length subs
+
+-- The same, with the sums and products that the machine makes of these numbers: each fact as the code asks it.
+pub record Lendable (y : List Float) (subs starts slots : List ℕ) (k : ℕ) : Type 0 where
+  pub numbers : Numbers y subs starts slots k
+  pub before-fits : Fits w64 ((k - 1) * 8)
+  pub here-fits : Fits w64 (k * 8)
+  pub start-fits : Fits w64 (getD starts (k - 1) 0 * 8)
+  pub end-fits : Fits w64 (getD starts (k - 1) 0 + (getD slots k 0 - getD slots (k - 1) 0))
+  pub slot-fits : Fits w64 (getD slots (k - 1) 0 * 8)
+  pub opens : getD starts (k - 1) 0 ≤ getD starts (k - 1) 0 + (getD slots k 0 - getD slots (k - 1) 0)
+
+-- stores that lie in memory are short enough
+pub lendable : {y : List Float} {subs starts slots : List ℕ} {k : ℕ} → Numbers y subs starts slots k
+    → length subs * 8 < 2 ^ 63 → length slots * 8 < 2 ^ 63 → length y * 8 < 2 ^ 63 → Lendable y subs starts slots k
+lendable f subs-room slots-room y-room =
+    record {
+      numbers = f;
+      before-fits = record { fits = omega (arith, f) };
+      here-fits = record { fits = omega (arith, f) };
+      start-fits = record { fits = omega (arith, f) };
+      end-fits = record { fits = omega (arith, f) };
+      slot-fits = record { fits = omega (arith, f) };
+      opens = omega arith;
+    }
 
 module _ (s : Planning) (side : Side) (n : ℕ) (subs starts slots : List ℕ) (index : Indexed s side n subs starts slots) (k : ℕ) (low : 1 ≤ k) (high : k ≤ n) where
   pub first-is : getD slots (k - 1) 0 ≡ slotsOf s side (k - 1)

@@ -8,3 +8,4 @@ pub mod Exchange
 pub mod Sound
 pub mod Places
 pub mod Lies
+pub mod Small

@@ -92,9 +92,6 @@ module _ (k : ℕ) (lSubs lStarts lSlots uSubs uStarts uSlots : List ℕ) (l u d
         part-is (w .s) lower (w .n) lSubs lStarts lSlots (w .lowers) k (w .low) (w .high) (divided k (w .square)) (patched l lSlots k part′) divided-shows
         ∙ map-cong _ _ (kept (w .s) lower k) (λ i m. divided-column k (w .square) i (above (w .s) (w .n) (w .grid) lower k i m))
 
-    pub patched-numbers : Numbers (patched l lSlots k part′) lSubs lStarts lSlots k
-    patched-numbers = numbers (w .s) lower (w .n) lSubs lStarts lSlots (w .lowers) k (w .low) (w .high) (divided k (w .square)) (patched l lSlots k part′) divided-shows
-
     pub upper-asks : SideAsks u uSubs uStarts uSlots (ownOf lSubs lStarts lSlots k) (partOf (patched l lSlots k part′) lSlots k) copy dense k
     unfolding atSide
     upper-asks =
@@ -120,9 +117,6 @@ module _ (k : ℕ) (lSubs lStarts lSlots uSubs uStarts uSlots : List ℕ) (l u d
       uppers-show : Shows (w .s) upper (w .n) (eliminated k (w .square)) u′
       unfolding upper-asks
       uppers-show = uppers upper-asks .shows
-
-      pub row-numbers : Numbers u′ uSubs uStarts uSlots k
-      row-numbers = numbers (w .s) upper (w .n) uSubs uStarts uSlots (w .uppers) k (w .low) (w .high) (eliminated k (w .square)) u′ uppers-show
 
       -- ---- the columns of L
 

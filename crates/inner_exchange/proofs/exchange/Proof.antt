@@ -1,7 +1,8 @@
 -- `exchange` meets its contract: column k, the columns before p, column p, those beyond it, and the right side, one after the other.
-use Rattle.inner_exchange.proofs.Assembly.{column-asks, row-asks, diagonal-in, cell-in, p-is, slot-in, p-above, row-within, before-asks, own-in, p-in, cell-next, other-asks, p-right, k-right, other-within, beyond-asks, whole}
+use Rattle.inner_exchange.proofs.Assembly.{column-asks, row-asks, diagonal-in, cell-in, p-is, slot-in, p-above, p-low, row-within, before-asks, own-in, p-in, cell-next, other-asks, p-right, k-right, other-within, beyond-asks, whole}
 use mathlib.Core.Path.{_∙_}
 use native.Mathlib.Omega.{arith}
+use Rattle.inner_slots.proofs.Small.{room-same, below-fits, index-fits, part-fits, sums-fit}
 use borrow.Author.Needs.{needs}
 use Rattle.inner_exchange.proofs.exchange.Statement.{statement}
 use Rattle.inner_exchange.proofs.exchange.Tie as tie
@@ -12,14 +13,10 @@ list-place-requires c κs =
     column-asks _ _ _ _ _ _ _ _ _ _ _ _ w
 
 add-cell : tie.Need-add-cell
-add-cell c =
-    let w = c .before .before .before .before .before .before .before .before .before .before .before .before .pre in
-    record { fits = omega (arith, cell-in _ _ _ _ _ _ _ _ _ _ _ _ w _ _ _ (c .before .list-place .ensures), c .before .before .before .before .before .before .before .before .before .before .before .before .good .1 .1 .0 .0) }
+add-cell c = below-fits (cell-in _ _ _ _ _ _ _ _ _ _ _ _ (c .before .before .before .before .before .before .before .before .before .before .before .before .pre) _ _ _ (c .before .list-place .ensures)) (c .before .before .before .before .before .before .before .before .before .before .before .before .good .1 .1 .0 .1)
 
 mul-p : tie.Need-mul-p
-mul-p c =
-    let w = c .before .before .before .before .before .before .before .before .before .before .before .before .pre in
-    record { fits = omega (arith, cell-in _ _ _ _ _ _ _ _ _ _ _ _ w _ _ _ (c .before .list-place .ensures), c .before .before .before .before .before .before .before .before .before .before .before .before .good .1 .1 .0 .1) }
+mul-p c = index-fits (cell-in _ _ _ _ _ _ _ _ _ _ _ _ (c .before .before .before .before .before .before .before .before .before .before .before .before .pre) _ _ _ (c .before .list-place .ensures)) (c .before .before .before .before .before .before .before .before .before .before .before .before .good .1 .1 .0 .1)
 
 shared-slice-read-p : tie.Need-shared-slice-read-p
 shared-slice-read-p c =
@@ -27,12 +24,10 @@ shared-slice-read-p c =
     cell-in _ _ _ _ _ _ _ _ _ _ _ _ w _ _ _ (c .before .before .list-place .ensures)
 
 add-at : tie.Need-add-at
-add-at c =
-    let w = c .before .before .before .before .before .before .before .before .before .before .before .before .before .before .pre in
-    record { fits = omega (arith, slot-in _ _ _ _ _ _ _ _ _ _ _ _ w _ _ _ (c .before .before .before .list-place .ensures), c .before .before .before .before .before .before .before .before .before .before .before .before .before .before .good .1 .1 .1 .1 .1 .1 .1 .1 .0 .0) }
+add-at c = below-fits (slot-in _ _ _ _ _ _ _ _ _ _ _ _ (c .before .before .before .before .before .before .before .before .before .before .before .before .before .before .pre) _ _ _ (c .before .before .before .list-place .ensures)) (c .before .before .before .before .before .before .before .before .before .before .before .before .before .before .good .1 .1 .1 .1 .1 .1 .1 .1 .0 .1)
 
 sub-trade : tie.Need-sub-trade
-sub-trade c = search needs
+sub-trade c = c .before .before .before .before .before .before .before .before .before .before .before .before .before .before .before .pre .low
 
 trade-requires : tie.Need-trade-requires
 trade-requires c κs =
@@ -45,10 +40,7 @@ list-place-requires-2 c κs =
     row-asks _ _ _ _ _ _ _ _ _ _ _ _ w
 
 mul-us : tie.Need-mul-us
-mul-us c =
-    let w = c .before .before .before .before .before .before .before .before .before .before .before .before .before .before .before .before .before .before .before .before .before .before .pre in
-    let f = row-within _ _ _ _ _ _ _ _ _ _ _ _ w _ _ _ (c .list-place2 .ensures) in
-    record { fits = omega (arith, f, c .before .before .before .before .before .before .before .before .before .before .before .before .before .before .before .before .before .before .before .before .before .before .good .1 .1 .1 .1 .1 .0 .1) }
+mul-us c = part-fits (row-within _ _ _ _ _ _ _ _ _ _ _ _ (c .before .before .before .before .before .before .before .before .before .before .before .before .before .before .before .before .before .before .before .before .before .before .pre) _ _ _ (c .list-place2 .ensures)) (c .before .before .before .before .before .before .before .before .before .before .before .before .before .before .before .before .before .before .before .before .before .before .good .1 .1 .1 .1 .1 .0 .1)
 
 sub-us : tie.Need-sub-us
 sub-us c =
@@ -71,19 +63,13 @@ trade-before-requires c κs =
     before-asks _ _ _ _ _ _ _ _ _ _ _ _ w _ (p-is _ _ _ _ _ _ _ _ _ _ _ _ w _ _ _ (c .before .before .before .before .before .before .before .before .before .before .before .before .before .before .list-place .ensures)) _ _ _ (c .before .before .before .before .before .before .before .before .before .before .before .before .before .before .list-place .ensures) _ _ (c .before .before .before .before .before .before .before .before .trade .ensures) _ _ _ (c .before .before .before .list-place2 .ensures)
 
 add-own : tie.Need-add-own
-add-own c =
-    let w = c .before .before .before .before .before .before .before .before .before .before .before .before .before .before .before .before .before .before .before .before .before .before .before .before .before .before .before .before .before .before .pre in
-    record { fits = omega (arith, own-in _ _ _ _ _ _ _ _ _ _ _ _ w _ (p-is _ _ _ _ _ _ _ _ _ _ _ _ w _ _ _ (c .before .before .before .before .before .before .before .before .before .before .before .before .before .before .before .before .before .before .before .list-place .ensures)) _ _ _ (c .before .before .before .before .before .before .before .before .before .before .before .before .before .before .before .before .before .before .before .list-place .ensures) _ _ (c .before .before .before .before .before .before .before .before .before .before .before .before .before .trade .ensures) _ _ _ (c .before .before .before .before .before .before .before .before .list-place2 .ensures) _ _ _ (c .before .before .before .before .trade-before .ensures), c .before .before .before .before .trade-before .kept .1 .1 .1 .1 .1 .1 .1 .1 .0, c .before .before .before .before .before .before .before .before .before .before .before .before .before .before .before .before .before .before .before .before .before .before .before .before .before .before .before .before .before .before .good .1 .1 .1 .1 .1 .1 .1 .1 .1 .0 .0) }
+add-own c = below-fits (own-in _ _ _ _ _ _ _ _ _ _ _ _ (c .before .before .before .before .before .before .before .before .before .before .before .before .before .before .before .before .before .before .before .before .before .before .before .before .before .before .before .before .before .before .pre) _ (p-is _ _ _ _ _ _ _ _ _ _ _ _ (c .before .before .before .before .before .before .before .before .before .before .before .before .before .before .before .before .before .before .before .before .before .before .before .before .before .before .before .before .before .before .pre) _ _ _ (c .before .before .before .before .before .before .before .before .before .before .before .before .before .before .before .before .before .before .before .list-place .ensures)) _ _ _ (c .before .before .before .before .before .before .before .before .before .before .before .before .before .before .before .before .before .before .before .list-place .ensures) _ _ (c .before .before .before .before .before .before .before .before .before .before .before .before .before .trade .ensures) _ _ _ (c .before .before .before .before .before .before .before .before .list-place2 .ensures) _ _ _ (c .before .before .before .before .trade-before .ensures)) (room-same (c .before .before .before .before .trade-before .kept .1 .1 .1 .1 .1 .1 .1 .1 .0) (c .before .before .before .before .before .before .before .before .before .before .before .before .before .before .before .before .before .before .before .before .before .before .before .before .before .before .before .before .before .before .good .1 .1 .1 .1 .1 .1 .1 .1 .1 .0 .1))
 
 sub-trade-2 : tie.Need-sub-trade-2
-sub-trade-2 c =
-    let w = c .before .before .before .before .before .before .before .before .before .before .before .before .before .before .before .before .before .before .before .before .before .before .before .before .before .before .before .before .before .before .before .pre in
-    omega (arith, w .low, p-above _ _ _ _ _ _ _ _ _ _ _ _ w _ (p-is _ _ _ _ _ _ _ _ _ _ _ _ w _ _ _ (c .before .before .before .before .before .before .before .before .before .before .before .before .before .before .before .before .before .before .before .before .list-place .ensures)))
+sub-trade-2 c = p-low _ _ _ _ _ _ _ _ _ _ _ _ (c .before .before .before .before .before .before .before .before .before .before .before .before .before .before .before .before .before .before .before .before .before .before .before .before .before .before .before .before .before .before .before .pre) _ (p-is _ _ _ _ _ _ _ _ _ _ _ _ (c .before .before .before .before .before .before .before .before .before .before .before .before .before .before .before .before .before .before .before .before .before .before .before .before .before .before .before .before .before .before .before .pre) _ _ _ (c .before .before .before .before .before .before .before .before .before .before .before .before .before .before .before .before .before .before .before .before .list-place .ensures))
 
 trade-requires-2 : tie.Need-trade-requires-2
-trade-requires-2 c κs =
-    let w = c .before .before .before .before .before .before .before .before .before .before .before .before .before .before .before .before .before .before .before .before .before .before .before .before .before .before .before .before .before .before .before .before .pre in
-    (omega (arith, p-in _ _ _ _ _ _ _ _ _ _ _ _ w _ (p-is _ _ _ _ _ _ _ _ _ _ _ _ w _ _ _ (c .before .before .before .before .before .before .before .before .before .before .before .before .before .before .before .before .before .before .before .before .before .list-place .ensures)) _ _ _ (c .before .before .before .before .before .before .before .before .before .before .before .before .before .before .before .before .before .before .before .before .before .list-place .ensures) _ _ (c .before .before .before .before .before .before .before .before .before .before .before .before .before .before .before .trade .ensures) _ _ _ (c .before .before .before .before .before .before .before .before .before .before .list-place2 .ensures) _ _ _ (c .before .before .before .before .before .before .trade-before .ensures), p-above _ _ _ _ _ _ _ _ _ _ _ _ w _ (p-is _ _ _ _ _ _ _ _ _ _ _ _ w _ _ _ (c .before .before .before .before .before .before .before .before .before .before .before .before .before .before .before .before .before .before .before .before .before .list-place .ensures))), own-in _ _ _ _ _ _ _ _ _ _ _ _ w _ (p-is _ _ _ _ _ _ _ _ _ _ _ _ w _ _ _ (c .before .before .before .before .before .before .before .before .before .before .before .before .before .before .before .before .before .before .before .before .before .list-place .ensures)) _ _ _ (c .before .before .before .before .before .before .before .before .before .before .before .before .before .before .before .before .before .before .before .before .before .list-place .ensures) _ _ (c .before .before .before .before .before .before .before .before .before .before .before .before .before .before .before .trade .ensures) _ _ _ (c .before .before .before .before .before .before .before .before .before .before .list-place2 .ensures) _ _ _ (c .before .before .before .before .before .before .trade-before .ensures))
+trade-requires-2 c κs = (p-in _ _ _ _ _ _ _ _ _ _ _ _ (c .before .before .before .before .before .before .before .before .before .before .before .before .before .before .before .before .before .before .before .before .before .before .before .before .before .before .before .before .before .before .before .before .pre) _ (p-is _ _ _ _ _ _ _ _ _ _ _ _ (c .before .before .before .before .before .before .before .before .before .before .before .before .before .before .before .before .before .before .before .before .before .before .before .before .before .before .before .before .before .before .before .before .pre) _ _ _ (c .before .before .before .before .before .before .before .before .before .before .before .before .before .before .before .before .before .before .before .before .before .list-place .ensures)) _ _ _ (c .before .before .before .before .before .before .before .before .before .before .before .before .before .before .before .before .before .before .before .before .before .list-place .ensures) _ _ (c .before .before .before .before .before .before .before .before .before .before .before .before .before .before .before .trade .ensures) _ _ _ (c .before .before .before .before .before .before .before .before .before .before .list-place2 .ensures) _ _ _ (c .before .before .before .before .before .before .trade-before .ensures), own-in _ _ _ _ _ _ _ _ _ _ _ _ (c .before .before .before .before .before .before .before .before .before .before .before .before .before .before .before .before .before .before .before .before .before .before .before .before .before .before .before .before .before .before .before .before .pre) _ (p-is _ _ _ _ _ _ _ _ _ _ _ _ (c .before .before .before .before .before .before .before .before .before .before .before .before .before .before .before .before .before .before .before .before .before .before .before .before .before .before .before .before .before .before .before .before .pre) _ _ _ (c .before .before .before .before .before .before .before .before .before .before .before .before .before .before .before .before .before .before .before .before .before .list-place .ensures)) _ _ _ (c .before .before .before .before .before .before .before .before .before .before .before .before .before .before .before .before .before .before .before .before .before .list-place .ensures) _ _ (c .before .before .before .before .before .before .before .before .before .before .before .before .before .before .before .trade .ensures) _ _ _ (c .before .before .before .before .before .before .before .before .before .before .list-place2 .ensures) _ _ _ (c .before .before .before .before .before .before .trade-before .ensures))
 
 list-place-requires-3 : tie.Need-list-place-requires-3
 list-place-requires-3 c κs =
@@ -91,28 +77,19 @@ list-place-requires-3 c κs =
     other-asks _ _ _ _ _ _ _ _ _ _ _ _ w _ (p-is _ _ _ _ _ _ _ _ _ _ _ _ w _ _ _ (c .before .before .before .before .before .before .before .before .before .before .before .before .before .before .before .before .before .before .before .before .before .before .before .before .before .before .list-place .ensures))
 
 add-next : tie.Need-add-next
-add-next c =
-    let w = c .before .before .before .before .before .before .before .before .before .before .before .before .before .before .before .before .before .before .before .before .before .before .before .before .before .before .before .before .before .before .before .before .before .before .before .before .before .before .pre in
-    record { fits = omega (arith, cell-next _ _ _ _ _ _ _ _ _ _ _ _ w _ (p-is _ _ _ _ _ _ _ _ _ _ _ _ w _ _ _ (c .before .before .before .before .before .before .before .before .before .before .before .before .before .before .before .before .before .before .before .before .before .before .before .before .before .before .before .list-place .ensures)) _ _ _ (c .before .before .before .before .before .before .before .before .before .before .before .before .before .before .before .before .before .before .before .before .before .before .before .before .before .before .before .list-place .ensures) _ _ (c .before .before .before .before .before .before .before .before .before .before .before .before .before .before .before .before .before .before .before .before .before .trade .ensures) _ _ _ (c .before .before .before .before .before .before .before .before .before .before .before .before .before .before .before .before .list-place2 .ensures) _ _ _ (c .before .before .before .before .before .before .before .before .before .before .before .before .trade-before .ensures), c .before .before .before .before .before .before .before .before .before .before .before .before .before .before .before .before .before .before .before .before .before .before .before .before .before .before .before .before .before .before .before .before .before .before .before .before .before .before .good .1 .1 .1 .1 .1 .0 .0) }
+add-next c = sums-fit _ _ (cell-next _ _ _ _ _ _ _ _ _ _ _ _ (c .before .before .before .before .before .before .before .before .before .before .before .before .before .before .before .before .before .before .before .before .before .before .before .before .before .before .before .before .before .before .before .before .before .before .before .before .before .before .pre) _ (p-is _ _ _ _ _ _ _ _ _ _ _ _ (c .before .before .before .before .before .before .before .before .before .before .before .before .before .before .before .before .before .before .before .before .before .before .before .before .before .before .before .before .before .before .before .before .before .before .before .before .before .before .pre) _ _ _ (c .before .before .before .before .before .before .before .before .before .before .before .before .before .before .before .before .before .before .before .before .before .before .before .before .before .before .before .list-place .ensures)) _ _ _ (c .before .before .before .before .before .before .before .before .before .before .before .before .before .before .before .before .before .before .before .before .before .before .before .before .before .before .before .list-place .ensures) _ _ (c .before .before .before .before .before .before .before .before .before .before .before .before .before .before .before .before .before .before .before .before .before .trade .ensures) _ _ _ (c .before .before .before .before .before .before .before .before .before .before .before .before .before .before .before .before .list-place2 .ensures) _ _ _ (c .before .before .before .before .before .before .before .before .before .before .before .before .trade-before .ensures)) (c .before .before .before .before .before .before .before .before .before .before .before .before .before .before .before .before .before .before .before .before .before .before .before .before .before .before .before .before .before .before .before .before .before .before .before .before .before .before .good .1 .1 .1 .1 .1 .0 .1) .0
 
 add-next-2 : tie.Need-add-next-2
-add-next-2 c =
-    let w = c .before .before .before .before .before .before .before .before .before .before .before .before .before .before .before .before .before .before .before .before .before .before .before .before .before .before .before .before .before .before .before .before .before .before .before .before .before .before .pre in
-    record { fits = omega (arith, cell-next _ _ _ _ _ _ _ _ _ _ _ _ w _ (p-is _ _ _ _ _ _ _ _ _ _ _ _ w _ _ _ (c .before .before .before .before .before .before .before .before .before .before .before .before .before .before .before .before .before .before .before .before .before .before .before .before .before .before .before .list-place .ensures)) _ _ _ (c .before .before .before .before .before .before .before .before .before .before .before .before .before .before .before .before .before .before .before .before .before .before .before .before .before .before .before .list-place .ensures) _ _ (c .before .before .before .before .before .before .before .before .before .before .before .before .before .before .before .before .before .before .before .before .before .trade .ensures) _ _ _ (c .before .before .before .before .before .before .before .before .before .before .before .before .before .before .before .before .list-place2 .ensures) _ _ _ (c .before .before .before .before .before .before .before .before .before .before .before .before .trade-before .ensures), c .before .before .before .before .before .before .before .before .before .before .before .before .before .before .before .before .before .before .before .before .before .before .before .before .before .before .before .before .before .before .before .before .before .before .before .before .before .before .good .1 .1 .1 .1 .1 .0 .0) }
+add-next-2 c = sums-fit _ _ (cell-next _ _ _ _ _ _ _ _ _ _ _ _ (c .before .before .before .before .before .before .before .before .before .before .before .before .before .before .before .before .before .before .before .before .before .before .before .before .before .before .before .before .before .before .before .before .before .before .before .before .before .before .pre) _ (p-is _ _ _ _ _ _ _ _ _ _ _ _ (c .before .before .before .before .before .before .before .before .before .before .before .before .before .before .before .before .before .before .before .before .before .before .before .before .before .before .before .before .before .before .before .before .before .before .before .before .before .before .pre) _ _ _ (c .before .before .before .before .before .before .before .before .before .before .before .before .before .before .before .before .before .before .before .before .before .before .before .before .before .before .before .list-place .ensures)) _ _ _ (c .before .before .before .before .before .before .before .before .before .before .before .before .before .before .before .before .before .before .before .before .before .before .before .before .before .before .before .list-place .ensures) _ _ (c .before .before .before .before .before .before .before .before .before .before .before .before .before .before .before .before .before .before .before .before .before .trade .ensures) _ _ _ (c .before .before .before .before .before .before .before .before .before .before .before .before .before .before .before .before .list-place2 .ensures) _ _ _ (c .before .before .before .before .before .before .before .before .before .before .before .before .trade-before .ensures)) (c .before .before .before .before .before .before .before .before .before .before .before .before .before .before .before .before .before .before .before .before .before .before .before .before .before .before .before .before .before .before .before .before .before .before .before .before .before .before .good .1 .1 .1 .1 .1 .0 .1) .1
 
 seat-requires : tie.Need-seat-requires
 seat-requires c κs = search needs
 
 add-trade-beyond : tie.Need-add-trade-beyond
-add-trade-beyond c =
-    let w = c .before .before .before .before .before .before .before .before .before .before .before .before .before .before .before .before .before .before .before .before .before .before .before .before .before .before .before .before .before .before .before .before .before .before .before .before .before .before .before .pre in
-    record { fits = omega (arith, cell-next _ _ _ _ _ _ _ _ _ _ _ _ w _ (p-is _ _ _ _ _ _ _ _ _ _ _ _ w _ _ _ (c .before .before .before .before .before .before .before .before .before .before .before .before .before .before .before .before .before .before .before .before .before .before .before .before .before .before .before .before .list-place .ensures)) _ _ _ (c .before .before .before .before .before .before .before .before .before .before .before .before .before .before .before .before .before .before .before .before .before .before .before .before .before .before .before .before .list-place .ensures) _ _ (c .before .before .before .before .before .before .before .before .before .before .before .before .before .before .before .before .before .before .before .before .before .before .trade .ensures) _ _ _ (c .before .before .before .before .before .before .before .before .before .before .before .before .before .before .before .before .before .list-place2 .ensures) _ _ _ (c .before .before .before .before .before .before .before .before .before .before .before .before .before .trade-before .ensures), c .before .before .before .before .before .before .before .before .before .before .before .before .before .before .before .before .before .before .before .before .before .before .before .before .before .before .before .before .before .before .before .before .before .before .before .before .before .before .before .good .1 .1 .1 .1 .1 .0 .0) }
+add-trade-beyond c = sums-fit _ _ (cell-next _ _ _ _ _ _ _ _ _ _ _ _ (c .before .before .before .before .before .before .before .before .before .before .before .before .before .before .before .before .before .before .before .before .before .before .before .before .before .before .before .before .before .before .before .before .before .before .before .before .before .before .before .pre) _ (p-is _ _ _ _ _ _ _ _ _ _ _ _ (c .before .before .before .before .before .before .before .before .before .before .before .before .before .before .before .before .before .before .before .before .before .before .before .before .before .before .before .before .before .before .before .before .before .before .before .before .before .before .before .pre) _ _ _ (c .before .before .before .before .before .before .before .before .before .before .before .before .before .before .before .before .before .before .before .before .before .before .before .before .before .before .before .before .list-place .ensures)) _ _ _ (c .before .before .before .before .before .before .before .before .before .before .before .before .before .before .before .before .before .before .before .before .before .before .before .before .before .before .before .before .list-place .ensures) _ _ (c .before .before .before .before .before .before .before .before .before .before .before .before .before .before .before .before .before .before .before .before .before .before .trade .ensures) _ _ _ (c .before .before .before .before .before .before .before .before .before .before .before .before .before .before .before .before .before .list-place2 .ensures) _ _ _ (c .before .before .before .before .before .before .before .before .before .before .before .before .before .trade-before .ensures)) (c .before .before .before .before .before .before .before .before .before .before .before .before .before .before .before .before .before .before .before .before .before .before .before .before .before .before .before .before .before .before .before .before .before .before .before .before .before .before .before .good .1 .1 .1 .1 .1 .0 .1) .2
 
 mul-trade-beyond : tie.Need-mul-trade-beyond
-mul-trade-beyond c =
-    let w = c .before .before .before .before .before .before .before .before .before .before .before .before .before .before .before .before .before .before .before .before .before .before .before .before .before .before .before .before .before .before .before .before .before .before .before .before .before .before .before .pre in
-    let f = other-within _ _ _ _ _ _ _ _ _ _ _ _ w _ (p-is _ _ _ _ _ _ _ _ _ _ _ _ w _ _ _ (c .before .before .before .before .before .before .before .before .before .before .before .before .before .before .before .before .before .before .before .before .before .before .before .before .before .before .before .before .list-place .ensures)) _ _ _ (c .before .list-place3 .ensures) in
-    record { fits = omega (arith, f, c .before .before .before .before .before .before .before .before .before .before .before .before .before .before .before .before .before .before .before .before .before .before .before .before .before .before .before .before .before .before .before .before .before .before .before .before .before .before .before .good .1 .1 .1 .1 .1 .0 .1) }
+mul-trade-beyond c = part-fits (other-within _ _ _ _ _ _ _ _ _ _ _ _ (c .before .before .before .before .before .before .before .before .before .before .before .before .before .before .before .before .before .before .before .before .before .before .before .before .before .before .before .before .before .before .before .before .before .before .before .before .before .before .before .pre) _ (p-is _ _ _ _ _ _ _ _ _ _ _ _ (c .before .before .before .before .before .before .before .before .before .before .before .before .before .before .before .before .before .before .before .before .before .before .before .before .before .before .before .before .before .before .before .before .before .before .before .before .before .before .before .pre) _ _ _ (c .before .before .before .before .before .before .before .before .before .before .before .before .before .before .before .before .before .before .before .before .before .before .before .before .before .before .before .before .list-place .ensures)) _ _ _ (c .before .list-place3 .ensures)) (c .before .before .before .before .before .before .before .before .before .before .before .before .before .before .before .before .before .before .before .before .before .before .before .before .before .before .before .before .before .before .before .before .before .before .before .before .before .before .before .good .1 .1 .1 .1 .1 .0 .1)
 
 sub-trade-beyond : tie.Need-sub-trade-beyond
 sub-trade-beyond c =
@@ -139,6 +116,7 @@ sub-trade-within c =
     let w = c .before .before .before .before .before .before .before .before .before .before .before .before .before .before .before .before .before .before .before .before .before .before .before .before .before .before .before .before .before .before .before .before .before .before .before .before .before .before .before .before .before .before .before .before .before .pre in
     w .low
 
+-- The rows of the right side: by arithmetic, so that code with another row here asks the same and is refused by the contract.
 sub-trade-within-2 : tie.Need-sub-trade-within-2
 sub-trade-within-2 c =
     let w = c .before .before .before .before .before .before .before .before .before .before .before .before .before .before .before .before .before .before .before .before .before .before .before .before .before .before .before .before .before .before .before .before .before .before .before .before .before .before .before .before .before .before .before .before .before .pre in

@@ -1,92 +1,75 @@
 -- `step` meets its contract: pivot row, exchange, elimination, and the flag at the end.
 use mathlib.Core.Path.{refl, _∙_}
-use borrow.Author.Needs.{needs}
+use Rattle.inner_sides.proofs.Lending.{Lendable, lendable}
 use Rattle.inner_steps.proofs.Standing.{lower-numbers, own-inside, pivot-asks, no-pivot, bring-asks, elim-asks, not-finite, went}
 use Rattle.inner_steps.proofs.step.Statement.{statement}
 use Rattle.inner_steps.proofs.step.Tie as tie
 
+lower : (s : tie.Start) → Lendable (s .args .l .now) (s .args .l-subs .now) (s .args .l-starts .now) (s .args .l-slots .now) (s .args .k)
+lower s = lendable (lower-numbers _ _ _ _ _ _ _ _ _ _ _ _ _ _ (s .pre)) (s .good .1 .1 .0 .1) (s .good .1 .1 .1 .1 .0 .1) (s .good .1 .1 .1 .1 .1 .1 .1 .1 .0 .1)
+
 sub-a : tie.Need-sub-a
-sub-a c =
-    let f = lower-numbers _ _ _ _ _ _ _ _ _ _ _ _ _ _ (c .before .before .before .before .before .before .before .before .before .before .before .before .pre) in search needs
+sub-a c = lower (c .before .before .before .before .before .before .before .before .before .before .before .before) .numbers .low
 
 mul-a : tie.Need-mul-a
-mul-a c =
-    let f = lower-numbers _ _ _ _ _ _ _ _ _ _ _ _ _ _ (c .before .before .before .before .before .before .before .before .before .before .before .before .pre) in search needs
+mul-a c = lower (c .before .before .before .before .before .before .before .before .before .before .before .before) .before-fits
 
 shared-slice-read-a : tie.Need-shared-slice-read-a
-shared-slice-read-a c =
-    let f = lower-numbers _ _ _ _ _ _ _ _ _ _ _ _ _ _ (c .before .before .before .before .before .before .before .before .before .before .before .before .before .pre) in search needs
+shared-slice-read-a c = lower (c .before .before .before .before .before .before .before .before .before .before .before .before .before) .numbers .before-in
 
 mul-e : tie.Need-mul-e
-mul-e c =
-    let f = lower-numbers _ _ _ _ _ _ _ _ _ _ _ _ _ _ (c .before .before .before .before .before .before .before .before .before .before .before .before .before .pre) in search needs
+mul-e c = lower (c .before .before .before .before .before .before .before .before .before .before .before .before .before) .here-fits
 
 shared-slice-read-e : tie.Need-shared-slice-read-e
-shared-slice-read-e c =
-    let f = lower-numbers _ _ _ _ _ _ _ _ _ _ _ _ _ _ (c .before .before .before .before .before .before .before .before .before .before .before .before .before .before .pre) in search needs
+shared-slice-read-e c = lower (c .before .before .before .before .before .before .before .before .before .before .before .before .before .before) .numbers .in-slots
 
 sub-b : tie.Need-sub-b
-sub-b c =
-    let f = lower-numbers _ _ _ _ _ _ _ _ _ _ _ _ _ _ (c .before .before .before .before .before .before .before .before .before .before .before .before .before .before .pre) in search needs
+sub-b c = lower (c .before .before .before .before .before .before .before .before .before .before .before .before .before .before) .numbers .low
 
 mul-b : tie.Need-mul-b
-mul-b c =
-    let f = lower-numbers _ _ _ _ _ _ _ _ _ _ _ _ _ _ (c .before .before .before .before .before .before .before .before .before .before .before .before .before .before .pre) in search needs
+mul-b c = lower (c .before .before .before .before .before .before .before .before .before .before .before .before .before .before) .before-fits
 
 shared-slice-read-b : tie.Need-shared-slice-read-b
-shared-slice-read-b c =
-    let f = lower-numbers _ _ _ _ _ _ _ _ _ _ _ _ _ _ (c .before .before .before .before .before .before .before .before .before .before .before .before .before .before .before .pre) in search needs
+shared-slice-read-b c = lower (c .before .before .before .before .before .before .before .before .before .before .before .before .before .before .before) .numbers .in-starts
 
 sub-f : tie.Need-sub-f
-sub-f c =
-    let f = lower-numbers _ _ _ _ _ _ _ _ _ _ _ _ _ _ (c .before .before .before .before .before .before .before .before .before .before .before .before .before .before .before .pre) in search needs
+sub-f c = lower (c .before .before .before .before .before .before .before .before .before .before .before .before .before .before .before) .numbers .rises
 
 add-f : tie.Need-add-f
-add-f c =
-    let f = lower-numbers _ _ _ _ _ _ _ _ _ _ _ _ _ _ (c .before .before .before .before .before .before .before .before .before .before .before .before .before .before .before .pre) in search needs
+add-f c = lower (c .before .before .before .before .before .before .before .before .before .before .before .before .before .before .before) .end-fits
 
 sub-own : tie.Need-sub-own
-sub-own c =
-    let f = lower-numbers _ _ _ _ _ _ _ _ _ _ _ _ _ _ (c .before .before .before .before .before .before .before .before .before .before .before .before .before .before .before .pre) in search needs
+sub-own c = lower (c .before .before .before .before .before .before .before .before .before .before .before .before .before .before .before) .numbers .low
 
 mul-own : tie.Need-mul-own
-mul-own c =
-    let f = own-inside _ _ _ _ _ _ _ _ _ _ _ _ _ _ (c .before .before .before .before .before .before .before .before .before .before .before .before .before .before .before .pre) in search needs
+mul-own c = lower (c .before .before .before .before .before .before .before .before .before .before .before .before .before .before .before) .before-fits
 
 slice-read-own : tie.Need-slice-read-own
 slice-read-own c = own-inside _ _ _ _ _ _ _ _ _ _ _ _ _ _ (c .before .before .before .before .before .before .before .before .before .before .before .before .before .before .before .before .pre)
 
 mul-pivot : tie.Need-mul-pivot
-mul-pivot c =
-    let f = lower-numbers _ _ _ _ _ _ _ _ _ _ _ _ _ _ (c .before .before .before .before .before .before .before .before .before .before .before .before .before .before .before .before .pre) in search needs
+mul-pivot c = lower (c .before .before .before .before .before .before .before .before .before .before .before .before .before .before .before .before) .slot-fits
 
 sub-pivot : tie.Need-sub-pivot
-sub-pivot c =
-    let f = lower-numbers _ _ _ _ _ _ _ _ _ _ _ _ _ _ (c .before .before .before .before .before .before .before .before .before .before .before .before .before .before .before .before .pre) in search needs
+sub-pivot c = lower (c .before .before .before .before .before .before .before .before .before .before .before .before .before .before .before .before) .numbers .rises
 
 part-pivot-start : tie.Need-part-pivot-start
-part-pivot-start c =
-    let f = lower-numbers _ _ _ _ _ _ _ _ _ _ _ _ _ _ (c .before .before .before .before .before .before .before .before .before .before .before .before .before .before .before .before .before .pre) in search needs
+part-pivot-start c = lower (c .before .before .before .before .before .before .before .before .before .before .before .before .before .before .before .before .before) .numbers .rises
 
 part-pivot-end : tie.Need-part-pivot-end
-part-pivot-end c =
-    let f = lower-numbers _ _ _ _ _ _ _ _ _ _ _ _ _ _ (c .before .before .before .before .before .before .before .before .before .before .before .before .before .before .before .before .before .pre) in search needs
+part-pivot-end c = lower (c .before .before .before .before .before .before .before .before .before .before .before .before .before .before .before .before .before) .numbers .ends
 
 mul-pivot-2 : tie.Need-mul-pivot-2
-mul-pivot-2 c =
-    let f = lower-numbers _ _ _ _ _ _ _ _ _ _ _ _ _ _ (c .before .before .before .before .before .before .before .before .before .before .before .before .before .before .before .before .before .before .pre) in search needs
+mul-pivot-2 c = lower (c .before .before .before .before .before .before .before .before .before .before .before .before .before .before .before .before .before .before) .start-fits
 
 sub-pivot-2 : tie.Need-sub-pivot-2
-sub-pivot-2 c =
-    let f = lower-numbers _ _ _ _ _ _ _ _ _ _ _ _ _ _ (c .before .before .before .before .before .before .before .before .before .before .before .before .before .before .before .before .before .before .pre) in search needs
+sub-pivot-2 c = lower (c .before .before .before .before .before .before .before .before .before .before .before .before .before .before .before .before .before .before) .opens
 
 part-pivot-start-2 : tie.Need-part-pivot-start-2
-part-pivot-start-2 c =
-    let f = lower-numbers _ _ _ _ _ _ _ _ _ _ _ _ _ _ (c .before .before .before .before .before .before .before .before .before .before .before .before .before .before .before .before .before .before .pre) in search needs
+part-pivot-start-2 c = lower (c .before .before .before .before .before .before .before .before .before .before .before .before .before .before .before .before .before .before) .opens
 
 part-pivot-end-2 : tie.Need-part-pivot-end-2
-part-pivot-end-2 c =
-    let f = lower-numbers _ _ _ _ _ _ _ _ _ _ _ _ _ _ (c .before .before .before .before .before .before .before .before .before .before .before .before .before .before .before .before .before .before .pre) in search needs
+part-pivot-end-2 c = lower (c .before .before .before .before .before .before .before .before .before .before .before .before .before .before .before .before .before .before) .numbers .subs-end
 
 pivot-requires : tie.Need-pivot-requires
 pivot-requires c κs = pivot-asks _ _ _ _ _ _ _ _ _ _ _ _ _ _ (c .before .before .before .before .before .before .before .before .before .before .before .before .before .before .before .before .before .before .before .pre)

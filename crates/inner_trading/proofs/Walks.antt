@@ -16,17 +16,14 @@ use Rattle.inner_slots.specs.Index.{Grid}
 use Rattle.inner_slots.specs.Places.{FirstFrom}
 use Rattle.inner_slots.proofs.Grid.{above}
 use Rattle.inner_slots.proofs.Places.{ascending-below, found-member}
-use Rattle.inner_exchange.specs.Places.{SlotAsks, SlotOf, SlotLeaves}
-use Rattle.inner_exchange.specs.Trading.{Traded, BeforeAsks, BeyondAsks}
-use Rattle.inner_exchange.proofs.Columns.{column-low, column-high, lower-slot, upper-slot, before-column, beyond-column}
-use Rattle.inner_exchange.proofs.Puts.{lower-inside, upper-inside}
+use Rattle.inner_trading.specs.Places.{SlotAsks, SlotOf, SlotLeaves}
+use Rattle.inner_trading.specs.Trading.{Traded, BeforeAsks, BeyondAsks}
+use Rattle.inner_trading.proofs.Columns.{column-low, column-high, lower-slot, upper-slot, before-column, beyond-column}
+use Rattle.inner_trading.proofs.Puts.{lower-inside, upper-inside}
 
 -- a kept list ascends from anywhere
 pub ascends-from : (s : Planning) (n : ℕ) → Grid s n → (side : Side) (k : ℕ) → Ascending 0 (kept s side k)
 ascends-from s n grid side k = ascending-weaken 0 (suc k) (kept s side k) (omega arith) (grid .ascends side k)
-
-pub next-le : (n t : ℕ) → t < n → t + 1 ≤ n
-next-le n t l = omega arith
 
 -- ---- before p
 

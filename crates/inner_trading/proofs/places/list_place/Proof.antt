@@ -1,9 +1,9 @@
 -- `list_place` meets its contract: the index stores are the plan's.
 use native.Mathlib.Omega.{arith}
-use Rattle.inner_exchange.proofs.Opening.{numbers, list-at}
+use Rattle.inner_trading.proofs.Opening.{numbers, list-at}
 use borrow.Author.Needs.{needs}
-use Rattle.inner_exchange.proofs.places.list_place.Statement.{statement}
-use Rattle.inner_exchange.proofs.places.list_place.Tie as tie
+use Rattle.inner_trading.proofs.places.list_place.Statement.{statement}
+use Rattle.inner_trading.proofs.places.list_place.Tie as tie
 
 sub-slot : tie.Need-sub-slot
 sub-slot c = search needs

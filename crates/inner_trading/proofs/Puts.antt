@@ -20,7 +20,7 @@ use Rattle.inner_slots.specs.Shows.{Shows, ShowsAll}
 use Rattle.inner_slots.proofs.Grid.{above}
 use Rattle.inner_slots.proofs.Mapped.{map-cong, getD-mapped, set-map}
 use Rattle.inner_slots.proofs.Shows.{part-inside, shows-read, shows-set, shows-same}
-use Rattle.inner_exchange.specs.Places.{SlotOf}
+use Rattle.inner_trading.specs.Places.{SlotOf}
 
 -- a square with v at (i, j)
 unfoldable pub put : ℕ → ℕ → Float → Square Float → Square Float

@@ -1,8 +1,8 @@
 -- `place_by` meets its contract: the guess where x stands there, else the place found.
-use Rattle.inner_exchange.proofs.Opening.{stands-first}
+use Rattle.inner_trading.proofs.Opening.{stands-first}
 use borrow.Author.Needs.{needs}
-use Rattle.inner_exchange.proofs.places.place_by.Statement.{statement}
-use Rattle.inner_exchange.proofs.places.place_by.Tie as tie
+use Rattle.inner_trading.proofs.places.place_by.Statement.{statement}
+use Rattle.inner_trading.proofs.places.place_by.Tie as tie
 
 mul-if2 : tie.Need-mul-if2
 mul-if2 c = search needs

@@ -2,7 +2,7 @@
 ghost use mathlib.Core.Path.{_≡_};
 ghost use Rattle.lists.specs.Sets.{Ascending};
 ghost use Rattle.inner_slots.specs.Places.{FirstFrom};
-ghost use Rattle.inner_exchange.specs.Places.{ListAsks, ListLeaves, SlotAsks, SlotLeaves};
+ghost use Rattle.inner_trading.specs.Places.{ListAsks, ListLeaves, SlotAsks, SlotLeaves};
 use answers::SlotPlace;
 use answers::SubscriptPlace;
 use inner_slots::place_of;

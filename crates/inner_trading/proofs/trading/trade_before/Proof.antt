@@ -5,10 +5,11 @@ use native.Mathlib.Omega.{arith}
 use lib.ListN.{length, length-set}
 use borrow.Author.Needs.{needs}
 use Rattle.lists.specs.Sets.{indexOf}
-use Rattle.inner_exchange.specs.Trading.{Traded, BeforeAsks}
-use Rattle.inner_exchange.proofs.Walks.{next-le, p-inside, nearer, before-asks, before-own, before-other, before-turn}
-use Rattle.inner_exchange.proofs.trading.trade_before.Statement.{statement}
-use Rattle.inner_exchange.proofs.trading.trade_before.Tie as tie
+use Rattle.inner_trading.specs.Trading.{Traded, BeforeAsks}
+use Rattle.inner_slots.proofs.Small.{next-le}
+use Rattle.inner_trading.proofs.Walks.{p-inside, nearer, before-asks, before-own, before-other, before-turn}
+use Rattle.inner_trading.proofs.trading.trade_before.Statement.{statement}
+use Rattle.inner_trading.proofs.trading.trade_before.Tie as tie
 
 abbrev Inv-loop : tie.InvT-loop
 Inv-loop us first p cell l-subs l-starts l-slots l₀ u₀ t₀ l u t =

@@ -1,9 +1,9 @@
 -- `slot_of` meets its contract: the list opens to the plan's, and x stands where it was found.
 use native.Mathlib.Omega.{arith}
-use Rattle.inner_exchange.proofs.Opening.{opened-within, opened-ascends, slot-fits, slot-found}
+use Rattle.inner_trading.proofs.Opening.{opened-within, opened-ascends, slot-fits, slot-found}
 use borrow.Author.Needs.{needs}
-use Rattle.inner_exchange.proofs.places.slot_of.Statement.{statement}
-use Rattle.inner_exchange.proofs.places.slot_of.Tie as tie
+use Rattle.inner_trading.proofs.places.slot_of.Statement.{statement}
+use Rattle.inner_trading.proofs.places.slot_of.Tie as tie
 
 list-place-requires : tie.Need-list-place-requires
 list-place-requires c κs = c .before .before .before .pre .list

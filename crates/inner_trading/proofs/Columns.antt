@@ -21,10 +21,10 @@ use Rattle.inner_slots.specs.Index.{Grid}
 use Rattle.inner_slots.specs.Shows.{ShowsAll}
 use Rattle.inner_slots.proofs.Exchange.{exchanged-first, exchanged-second, exchanged-others}
 use Rattle.inner_slots.proofs.Grid.{above, slot-lower, slot-upper}
-use Rattle.inner_exchange.specs.Places.{SlotOf}
-use Rattle.inner_exchange.specs.Trading.{columnsOf, Traded}
+use Rattle.inner_trading.specs.Places.{SlotOf}
+use Rattle.inner_trading.specs.Trading.{columnsOf, Traded}
 use Rattle.inner_choosing.proofs.Best.{not-in}
-use Rattle.inner_exchange.proofs.Puts.{put, put-here, put-apart, shows-all-same, read-lower, read-upper, read-diagonal, put-lower, put-upper, put-diagonal}
+use Rattle.inner_trading.proofs.Puts.{put, put-here, put-apart, shows-all-same, read-lower, read-upper, read-diagonal, put-lower, put-upper, put-diagonal}
 
 -- ---- one column more
 

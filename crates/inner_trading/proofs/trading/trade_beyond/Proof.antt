@@ -4,10 +4,11 @@ use mathlib.Core.Path.{_≡_, refl}
 use native.Mathlib.Omega.{arith}
 use lib.ListN.{length, length-set}
 use borrow.Author.Needs.{needs}
-use Rattle.inner_exchange.specs.Trading.{Traded, BeyondAsks}
-use Rattle.inner_exchange.proofs.Walks.{next-le, own-ascends, beyond-own, beyond-other, beyond-turn, beyond-end}
-use Rattle.inner_exchange.proofs.trading.trade_beyond.Statement.{statement}
-use Rattle.inner_exchange.proofs.trading.trade_beyond.Tie as tie
+use Rattle.inner_trading.specs.Trading.{Traded, BeyondAsks}
+use Rattle.inner_slots.proofs.Small.{next-le}
+use Rattle.inner_trading.proofs.Walks.{own-ascends, beyond-own, beyond-other, beyond-turn, beyond-end}
+use Rattle.inner_trading.proofs.trading.trade_beyond.Statement.{statement}
+use Rattle.inner_trading.proofs.trading.trade_beyond.Tie as tie
 
 abbrev Inv-loop : tie.InvT-loop
 Inv-loop us first from own second guess u₀ t₀ next₀ u t next =

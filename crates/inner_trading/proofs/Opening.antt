@@ -10,7 +10,7 @@ use Rattle.foundation.specs.Subscripts.{kept}
 use Rattle.inner_slots.specs.Places.{FirstFrom}
 use Rattle.inner_slots.proofs.Places.{ascending-at, ascending-below, found-member}
 use Rattle.inner_slots.proofs.Shows.{slots-step}
-use Rattle.inner_exchange.specs.Places.{ListAsks, ListAt, ListLeaves, SlotAsks, SlotOf}
+use Rattle.inner_trading.specs.Places.{ListAsks, ListAt, ListLeaves, SlotAsks, SlotOf}
 
 -- where x stands is the first place not below it
 pub stands-first : (list : List ℕ) (x r : ℕ) → Ascending 0 list → r < length list → getD list r 0 ≡ x → FirstFrom list x r

@@ -3,7 +3,7 @@ ghost use mathlib.Core.Path.{_≡_};
 ghost use Prim.Native.Nat.{_<_};
 ghost use lib.Ieee.{nan};
 ghost use lib.ListN.{length, getD, set};
-ghost use Rattle.inner_exchange.specs.Trading.{BeforeAsks, BeforeLeaves, BeyondAsks, BeyondLeaves};
+ghost use Rattle.inner_trading.specs.Trading.{BeforeAsks, BeforeLeaves, BeyondAsks, BeyondLeaves};
 use crate::places::place_by;
 use crate::places::slot_of;
 use answers::SlotPlace;

@@ -1,0 +1,5 @@
+-- Laws of trading slots.
+pub mod Opening
+pub mod Puts
+pub mod Columns
+pub mod Walks

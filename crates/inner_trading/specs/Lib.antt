@@ -1,0 +1,3 @@
+-- What the contracts of trading slots cite.
+pub mod Places
+pub mod Trading
