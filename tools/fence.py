@@ -16,8 +16,8 @@ import sys
 
 # The open crate of each part, and its inner crates.
 PARTS = {
-    "planning": ["inner_searching", "inner_stores", "inner_patterns", "inner_gathering", "inner_sharing", "inner_appending", "inner_step", "inner_comparing",
-                 "inner_planning", "inner_verifying"],
+    "planning": ["inner_searching", "inner_stores", "inner_patterns", "inner_counts", "inner_gathering", "inner_sharing", "inner_appending", "inner_step",
+                 "inner_comparing", "inner_planning", "inner_verifying", "inner_plan_call", "inner_verify_call"],
     "elimination": ["inner_slots", "inner_choosing", "inner_trading", "inner_exchange", "inner_stretches", "inner_sides", "inner_column", "inner_steps", "inner_loading",
                     "inner_solving", "inner_asking", "inner_judging", "inner_clearing", "inner_running", "inner_answering"],
     "job": ["inner_printing", "inner_reporting", "inner_operands", "inner_commands", "inner_standing", "inner_reading", "inner_lending"],

@@ -5,6 +5,8 @@ use Prim.Native.Nat.{ℕ, zero, suc, _+_, _-_, _*_, _≤_, _<_}
 use native.Mathlib.Nat.{mul-le-mul-left}
 use native.Mathlib.Omega.{arith}
 use lib.ListN.{length, getD}
+use mir.Syntax.{w64}
+use mir.Val.{Fits}
 use Rattle.lists.specs.Functions.{total}
 use Rattle.lists.specs.Sets.{upto, run}
 use Rattle.lists.proofs.Members.{in-upto, upto-low, upto-high}
@@ -128,6 +130,21 @@ module _ (p : Lent) (n k : ℕ) (rowHeads rowLinks setHeads setLinks : List ℕ)
   set-inside =
       linked-below setLinks (getD setHeads k 0) (planOf p .S k) (chains-at .steps) (omega (arith, chains .set-chains .links-size))
 
+-- its place can be addressed
+pub place-fits : {p : Lent} {n k : ℕ} → StepOf p n k → Fits w64 (k * 8)
+place-fits step = record { fits = omega (arith, step .high, step .same-n, step .ready .few) }
+
+-- and lies in the heads of both kinds of chains
+pub row-head-inside :
+    {p : Lent} {n k : ℕ} {rowHeads rowLinks setHeads setLinks : List ℕ} → StepOf p n k × ChainsAt p n (k - 1) rowHeads rowLinks setHeads setLinks
+    → k < length rowHeads
+row-head-inside (step, chains) = omega (arith, step .high, chains .row-chains .heads-size)
+
+pub set-head-inside :
+    {p : Lent} {n k : ℕ} {rowHeads rowLinks setHeads setLinks : List ℕ} → StepOf p n k × ChainsAt p n (k - 1) rowHeads rowLinks setHeads setLinks
+    → k < length setHeads
+set-head-inside (step, chains) = omega (arith, step .high, chains .set-chains .heads-size)
+
 -- before the first step nothing is used, and the columns alone are read
 pub ends-none : (p : Lent) (l u reads : ℕ) → l ≡ 0 → u ≡ 0 → reads ≡ length (p .columns) → EndsAre p 0 l u reads
 ends-none p l u reads a b c = record {
@@ -142,11 +159,15 @@ module _ {p : Lent} {n k l u reads more : ℕ} (step : StepOf p n k) (ends : End
   reads-more = omega (arith, reads-next p k (step .low), ends .read)
 
   -- which are few
-  pub sum-small : reads + more < 4294967296
+  sum-small : reads + more < 4294967296
   sum-small =
       let same = step .same-n in
       let high = step .high in
       rw reads-more (reads-small p (step .ready) k (omega arith))
+
+  -- so that a word holds them
+  pub sum-fits : Fits w64 (reads + more)
+  sum-fits = record { fits = omega (arith, sum-small) }
 
 -- before the first step no step is in a set S
 pub chains-begin :

@@ -1,8 +1,10 @@
 -- A pattern that passes the judgement is ready for planning.
 use mathlib.Core.List.{List}
 use mathlib.Core.Path.{_≡_, refl, sym, _∙_}
-use Prim.Native.Nat.{ℕ, _≤_}
+use Prim.Native.Nat.{ℕ, _*_, _≤_}
 use native.Mathlib.Omega.{arith}
+use mir.Syntax.{w64}
+use mir.Val.{Fits}
 use Rattle.foundation.specs.Pattern.{Lent, lent, maxN, patternFault}
 use Rattle.foundation.proofs.Passing.{passes-starts, passes-small, passes-plannable}
 use Rattle.inner_gathering.specs.Ready.{Ready}
@@ -34,3 +36,7 @@ module _ (most n : ℕ) (starts columns : List ℕ) (fault : ℕ) (found : fault
   pub fault-few : fault ≡ 0 → n ≤ 65536
   unfolding lent
   fault-few none = fault-ready none .few
+
+  -- so that the place behind its last step can be addressed
+  pub fault-place : fault ≡ 0 → Fits w64 (n * 8)
+  fault-place none = record { fits = omega (arith, fault-few none) }

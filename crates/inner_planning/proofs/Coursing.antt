@@ -35,6 +35,18 @@ pub record SameSizes (a₀ a b₀ b c₀ c d₀ d e₀ e : List ℕ) : Type 0 wh
   pub fourth : length d ≡ length d₀
   pub fifth : length e ≡ length e₀
 
+-- and so have lists that have the sizes of those
+pub sizes-on :
+    {a₀ a a′ b₀ b b′ c₀ c c′ d₀ d d′ e₀ e e′ : List ℕ} → SameSizes a₀ a b₀ b c₀ c d₀ d e₀ e → length a′ ≡ length a → length b′ ≡ length b → length c′ ≡ length c
+    → length d′ ≡ length d → length e′ ≡ length e → SameSizes a₀ a′ b₀ b′ c₀ c′ d₀ d′ e₀ e′
+sizes-on same a b c d e = record {
+  first = a ∙ same .first;
+  second = b ∙ same .second;
+  third = c ∙ same .third;
+  fourth = d ∙ same .fourth;
+  fifth = e ∙ same .fifth;
+}
+
 -- The steps before k are done, in stores with room for so many subscripts.
 pub record Underway (p : Lent) (n k roomL roomU : ℕ) (rowHeads rowLinks setHeads setLinks lSubs lStarts lSlots uSubs uStarts uSlots list spare : List ℕ) (l u reads : ℕ) : Type 0 where
   pub ready : Ready p

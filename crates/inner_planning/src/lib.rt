@@ -1,5 +1,5 @@
-// Planning from the judgement to the answer, in stores as they are lent.
-mod call;
+// All steps of planning, in lent stores.
 mod steps;
 
-pub use call::judge_and_plan;
+pub use steps::Ended;
+pub use steps::plan_steps;

@@ -1,5 +1,5 @@
-// A lent plan compared with a pattern's plan, in work stores as they are lent.
-mod call;
+// All steps of a lent plan compared with a pattern's plan.
 mod steps;
 
-pub use call::judge_and_verify;
+pub use steps::VerifiedEnd;
+pub use steps::verify_steps;

@@ -21,8 +21,8 @@ use Rattle.inner_gathering.specs.Ready.{planOf}
 use Rattle.inner_gathering.proofs.Passing.{lent-n}
 use Rattle.inner_step.specs.Filled.{Filled, BothFilled}
 use Rattle.inner_step.proofs.Filled.{filled-contains}
-use Rattle.inner_planning.specs.Outcome.{PlannedAs}
-use Rattle.inner_planning.proofs.Answering.{planned-same}
+use Rattle.inner_plan_call.specs.Outcome.{PlannedAs}
+use Rattle.inner_plan_call.proofs.Answering.{planned-same}
 use Rattle.planning.specs.Calls.{PlanKept}
 
 -- ---- what the call leaves

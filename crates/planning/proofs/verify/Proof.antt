@@ -1,15 +1,14 @@
 -- `verify` meets its contract: a lent plan is verified, and the work stores are cleared. Assumes nothing.
 use mathlib.Core.Path.{_∙_}
-use borrow.Author.Needs.{needs}
 use Rattle.planning.proofs.Calling.{work-left}
 use Rattle.planning.proofs.verify.Statement.{statement}
 use Rattle.planning.proofs.verify.Tie as tie
 
 judge-and-verify-requires : tie.Need-judge-and-verify-requires
-judge-and-verify-requires c κs = search needs
+judge-and-verify-requires c κs = tt
 
 clear-work-requires : tie.Need-clear-work-requires
-clear-work-requires c κs = search needs
+clear-work-requires c κs = tt
 
 same-length : tie.Need-same-length
 same-length c = c .before .before .before .before .before .before .before .before .before .before .before .before .clear-work .kept .0 ∙ c .before .before .before .before .before .before .before .before .before .before .before .before .before .before .before .before .before .before .before .before .before .before .before .before .before .before .before .before .before .before .before .judge-and-verify .kept .1 .1 .1 .1 .1 .1 .1 .1 .1 .1 .1 .0

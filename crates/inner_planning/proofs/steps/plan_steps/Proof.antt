@@ -4,9 +4,8 @@ use mathlib.Core.Path.{refl, _∙_}
 use Prim.Native.Nat.{_+_, _-_}
 use native.Mathlib.Omega.{arith}
 use lib.ListN.{length}
-use borrow.Author.Needs.{needs}
 use Rattle.foundation.specs.Pattern.{lent}
-use Rattle.inner_planning.proofs.Coursing.{SameSizes, Underway, steps-start, step-asks, full-lower, full-upper, steps-turn, steps-end}
+use Rattle.inner_planning.proofs.Coursing.{SameSizes, Underway, sizes-on, steps-start, step-asks, full-lower, full-upper, steps-turn, steps-end}
 use Rattle.inner_planning.proofs.steps.plan_steps.Statement.{statement}
 use Rattle.inner_planning.proofs.steps.plan_steps.Tie as tie
 
@@ -30,7 +29,7 @@ plan-step-requires : tie.Need-plan-step-requires Inv-loop μ-loop
 plan-step-requires c κs = step-asks (c .before .before .before .before .before .before .before .before .before .before .before .loop .inv .0) (c .before .before .before .before .before .before .before .before .before .before .loop-test .taken)
 
 enum-told : tie.Need-enum-told Inv-loop μ-loop
-enum-told c = search needs
+enum-told c = c .match .keys1
 
 same-length : tie.Need-same-length Inv-loop μ-loop
 same-length c = c .before .before .before .before .before .before .before .before .before .before .before .before .before .before .before .before .before .before .before .before .before .before .plan-step .kept .1 .1 .1 .1 .1 .1 .0 ∙ c .before .before .before .before .before .before .before .before .before .before .before .before .before .before .before .before .before .before .before .before .before .before .before .before .before .before .before .before .before .before .before .before .before .before .loop .inv .1 .first
@@ -67,7 +66,7 @@ returns c =
     full-lower (c .before .before .before .before .before .before .before .before .before .before .before .before .before .before .before .before .before .before .before .before .before .before .before .before .before .before .before .before .before .before .before .before .before .before .loop .inv .0) (c .before .before .before .before .before .before .before .before .before .before .before .before .before .before .before .before .before .before .before .before .before .before .before .before .before .before .before .before .before .before .before .before .before .loop-test .taken) (rw (c .enum-told .given .1) at (c .before .before .before .before .before .before .before .before .before .before .before .before .before .before .before .before .before .before .before .before .before .before .plan-step .ensures))
 
 enum-told-2 : tie.Need-enum-told-2 Inv-loop μ-loop
-enum-told-2 c = search needs
+enum-told-2 c = c .match .keys2
 
 same-length-11 : tie.Need-same-length-11 Inv-loop μ-loop
 same-length-11 c = c .before .before .before .before .before .before .before .before .before .before .before .before .before .before .before .before .before .before .before .before .before .before .plan-step .kept .1 .1 .1 .1 .1 .1 .0 ∙ c .before .before .before .before .before .before .before .before .before .before .before .before .before .before .before .before .before .before .before .before .before .before .before .before .before .before .before .before .before .before .before .before .before .before .loop .inv .1 .first
@@ -104,7 +103,7 @@ returns-2 c =
     full-upper (c .before .before .before .before .before .before .before .before .before .before .before .before .before .before .before .before .before .before .before .before .before .before .before .before .before .before .before .before .before .before .before .before .before .before .loop .inv .0) (c .before .before .before .before .before .before .before .before .before .before .before .before .before .before .before .before .before .before .before .before .before .before .before .before .before .before .before .before .before .before .before .before .before .loop-test .taken) (rw (c .enum-told2 .given .1) at (c .before .before .before .before .before .before .before .before .before .before .before .before .before .before .before .before .before .before .before .before .before .before .plan-step .ensures))
 
 enum-known-turned : tie.Need-enum-known-turned Inv-loop μ-loop
-enum-known-turned c = search needs
+enum-known-turned c = c .match .keys3
 
 add-k : tie.Need-add-k Inv-loop μ-loop
 add-k c =
@@ -120,8 +119,8 @@ loop-again c =
     let inv = c .before .before .before .before .before .before .before .before .before .before .before .before .before .before .before .before .before .before .before .before .before .before .before .before .before .before .before .before .before .before .before .before .before .before .before .loop .inv in
     let on = rw (c .before .turned .given .1) at (s .plan-step .ensures) in (
       steps-turn (inv .0) (c .before .before .before .before .before .before .before .before .before .before .before .before .before .before .before .before .before .before .before .before .before .before .before .before .before .before .before .before .before .before .before .before .before .before .loop-test .taken) on (s .plan-step .kept .1 .1 .1 .1 .1 .1 .1 .1 .1 .1 .1 .1 .1 .1 .0) (s .plan-step .kept .1 .1 .1 .1 .1 .1 .1 .1 .1 .1 .1 .1 .1 .1 .1 .0),
-      record { first = s .plan-step .kept .1 .1 .1 .1 .1 .1 .0 ∙ inv .1 .first; second = s .plan-step .kept .1 .1 .1 .1 .1 .1 .1 .0 ∙ inv .1 .second; third = s .plan-step .kept .1 .1 .1 .1 .1 .1 .1 .1 .0 ∙ inv .1 .third; fourth = s .plan-step .kept .1 .1 .1 .1 .1 .1 .1 .1 .1 .0 ∙ inv .1 .fourth; fifth = s .plan-step .kept .1 .1 .1 .1 .1 .1 .1 .1 .1 .1 .0 ∙ inv .1 .fifth },
-      record { first = s .plan-step .kept .1 .1 .1 .1 .1 .1 .1 .1 .1 .1 .1 .0 ∙ inv .2 .first; second = s .plan-step .kept .1 .1 .1 .1 .1 .1 .1 .1 .1 .1 .1 .1 .0 ∙ inv .2 .second; third = s .plan-step .kept .1 .1 .1 .1 .1 .1 .1 .1 .1 .1 .1 .1 .1 .0 ∙ inv .2 .third; fourth = s .plan-step .kept .1 .1 .1 .1 .1 .1 .1 .1 .1 .1 .1 .1 .1 .1 .0 ∙ inv .2 .fourth; fifth = s .plan-step .kept .1 .1 .1 .1 .1 .1 .1 .1 .1 .1 .1 .1 .1 .1 .1 .0 ∙ inv .2 .fifth },
+      sizes-on (inv .1) (s .plan-step .kept .1 .1 .1 .1 .1 .1 .0) (s .plan-step .kept .1 .1 .1 .1 .1 .1 .1 .0) (s .plan-step .kept .1 .1 .1 .1 .1 .1 .1 .1 .0) (s .plan-step .kept .1 .1 .1 .1 .1 .1 .1 .1 .1 .0) (s .plan-step .kept .1 .1 .1 .1 .1 .1 .1 .1 .1 .1 .0),
+      sizes-on (inv .2) (s .plan-step .kept .1 .1 .1 .1 .1 .1 .1 .1 .1 .1 .1 .0) (s .plan-step .kept .1 .1 .1 .1 .1 .1 .1 .1 .1 .1 .1 .1 .0) (s .plan-step .kept .1 .1 .1 .1 .1 .1 .1 .1 .1 .1 .1 .1 .1 .0) (s .plan-step .kept .1 .1 .1 .1 .1 .1 .1 .1 .1 .1 .1 .1 .1 .1 .0) (s .plan-step .kept .1 .1 .1 .1 .1 .1 .1 .1 .1 .1 .1 .1 .1 .1 .1 .0),
     )
 
 same-length-21 : tie.Need-same-length-21 Inv-loop μ-loop

@@ -23,10 +23,10 @@ added-own-requires c κs =
     (_, joins (pre .0 .0) (pre .0 .1) (c .before .before .before .before .joins-last .ensures (not-false _ (c .before .before .before .if1 .left))), step-contains (pre .0 .0) (pre .1 .0), pre .1 .1)
 
 enum-known-added : tie.Need-enum-known-added
-enum-known-added c = search needs
+enum-known-added c = c .match .keys1
 
 enum-told : tie.Need-enum-told
-enum-told c = search needs
+enum-told c = c .match .keys2
 
 same-length : tie.Need-same-length
 same-length c = refl

@@ -1,7 +1,6 @@
 -- `append_upper` meets its contract: what the row adds behind the list of the step before is what the list of this step adds to its store.
 use mathlib.Core.Path.{refl}
 use native.Mathlib.Omega.{arith}
-use borrow.Author.Needs.{needs}
 use borrow.Author.Tests.{not-false}
 use Rattle.inner_appending.proofs.Joining.{row-inside, joins, joins-not-sole, row-of, columns-rest}
 use Rattle.inner_step.proofs.Short.{placing-writable, placing-placed}
@@ -23,10 +22,10 @@ added-columns-requires c κs =
     (joins (pre .0 .0) (pre .0 .1) (c .before .before .before .before .joins-last .ensures (not-false _ (c .before .before .before .if1 .left))), (step-contains (pre .0 .0) (pre .1 .0), pre .1 .1))
 
 enum-known-added : tie.Need-enum-known-added
-enum-known-added c = search needs
+enum-known-added c = c .match .keys1
 
 enum-told : tie.Need-enum-told
-enum-told c = search needs
+enum-told c = c .match .keys2
 
 same-length : tie.Need-same-length
 same-length c = refl

@@ -1,24 +1,22 @@
 -- `verify_step` meets its contract: what it hands to each function that it calls, and what all of them leave, are laws of
 -- `Coursing`. Assumes nothing.
 use mathlib.Core.Path.{refl, _∙_}
-use native.Mathlib.Omega.{arith}
-use borrow.Author.Needs.{needs}
-use Rattle.inner_gathering.proofs.Coursing.{sum-small}
+use Rattle.inner_gathering.proofs.Coursing.{place-fits, row-head-inside, set-head-inside, sum-fits}
 use Rattle.inner_verifying.proofs.Coursing.{verify-total-asks, verify-side-asks, verify-hand-asks, verify-on}
 use Rattle.inner_verifying.proofs.steps.verify_step.Statement.{statement}
 use Rattle.inner_verifying.proofs.steps.verify_step.Tie as tie
 
 mul-row : tie.Need-mul-row
-mul-row c = search needs
+mul-row c = place-fits (c .before .before .before .before .before .before .before .before .before .before .before .before .before .before .pre .0 .0)
 
 shared-slice-read-row : tie.Need-shared-slice-read-row
-shared-slice-read-row c = search needs
+shared-slice-read-row c = row-head-inside (c .before .before .before .before .before .before .before .before .before .before .before .before .before .before .before .pre .0)
 
 mul-set : tie.Need-mul-set
-mul-set c = search needs
+mul-set c = place-fits (c .before .before .before .before .before .before .before .before .before .before .before .before .before .before .before .pre .0 .0)
 
 slice-read-set : tie.Need-slice-read-set
-slice-read-set c = search needs
+slice-read-set c = set-head-inside (c .before .before .before .before .before .before .before .before .before .before .before .before .before .before .before .before .pre .0)
 
 step-total-requires : tie.Need-step-total-requires
 step-total-requires c κs =
@@ -31,10 +29,10 @@ verify-lower-requires c κs =
     verify-side-asks (pre .0) (pre .1 .0 .lowers) (pre .1 .1 .0 .lower-end) (pre .1 .1 .1)
 
 enum-known-lowers : tie.Need-enum-known-lowers
-enum-known-lowers c = search needs
+enum-known-lowers c = c .match .keys1
 
 enum-told : tie.Need-enum-told
-enum-told c = search needs
+enum-told c = c .match .keys2
 
 same-length : tie.Need-same-length
 same-length c = refl
@@ -56,10 +54,10 @@ verify-upper-requires c κs =
     verify-side-asks (pre .0) (pre .1 .0 .uppers) (pre .1 .1 .0 .upper-end) (kept .1 .1 .1 .1 .1 .1 .1 .1 .1 .1 .1 .0 ∙ sizes .0, kept .1 .1 .1 .1 .1 .1 .1 .1 .1 .1 .1 .1 .0 ∙ sizes .1)
 
 enum-known-uppers : tie.Need-enum-known-uppers
-enum-known-uppers c = search needs
+enum-known-uppers c = c .match2 .keys1
 
 enum-told-2 : tie.Need-enum-told-2
-enum-told-2 c = search needs
+enum-told-2 c = c .match2 .keys2
 
 same-length-4 : tie.Need-same-length-4
 same-length-4 c = refl
@@ -82,7 +80,7 @@ hand-on-requires c κs =
 add-t27 : tie.Need-add-t27
 add-t27 c =
     let pre = c .before .before .before .before .before .before .before .before .before .before .before .before .before .before .before .before .before .before .before .before .before .before .before .before .before .before .before .before .before .before .before .before .before .before .before .before .before .before .before .before .before .before .before .before .before .before .before .pre in
-    omega (arith, sum-small (pre .0 .0) (pre .1 .1 .0) (c .before .before .before .before .before .before .before .before .before .before .before .before .before .before .before .before .before .before .before .before .before .before .before .before .before .before .before .before .before .step-total .ensures))
+    sum-fits (pre .0 .0) (pre .1 .1 .0) (c .before .before .before .before .before .before .before .before .before .before .before .before .before .before .before .before .before .before .before .before .before .before .before .before .before .before .before .before .before .step-total .ensures)
 
 same-length-7 : tie.Need-same-length-7
 same-length-7 c = c .before .before .before .before .hand-on .kept .1 .1 .1 .1 .1 .1 .1 .1 .0

@@ -3,7 +3,6 @@
 use mathlib.Core.Path.{refl, sym, _∙_}
 use Prim.Native.Nat.{_+_, _-_}
 use native.Mathlib.Omega.{arith}
-use borrow.Author.Needs.{needs}
 use Rattle.foundation.specs.Pattern.{lent}
 use Rattle.inner_verifying.proofs.Coursing.{VerifyUnderway, verify-start, first-lower, first-upper, verify-differs-later, verify-step-asks, verify-turn, verify-end}
 use Rattle.inner_verifying.proofs.steps.verify_steps.Statement.{statement}
@@ -37,7 +36,7 @@ verify-step-requires : tie.Need-verify-step-requires Inv-loop μ-loop
 verify-step-requires c κs = verify-step-asks (c .before .before .before .before .before .loop .inv) (c .before .before .before .before .loop-test .taken)
 
 enum-told : tie.Need-enum-told Inv-loop μ-loop
-enum-told c = search needs
+enum-told c = c .match .keys1
 
 same-length : tie.Need-same-length Inv-loop μ-loop
 same-length c = c .before .before .before .before .before .before .before .before .before .before .verify-step .kept .1 .1 .1 .1 .1 .1 .0 ∙ c .before .before .before .before .before .before .before .before .before .before .before .before .before .before .before .before .loop .inv .chains .set-chains .heads-size ∙ sym (c .before .before .before .before .before .before .before .before .before .before .before .before .before .before .before .before .before .before .before .before .before .before .before .before .before .before .before .before .before .before .before .before .before .before .before .pre .0 .1 .set-chains .heads-size)
@@ -55,7 +54,7 @@ returns-3 : tie.Need-returns-3 Inv-loop μ-loop
 returns-3 c = verify-differs-later (c .before .before .before .before .before .before .before .before .before .before .before .before .before .before .before .loop-test .taken) (rw (c .enum-told .given .1) at (c .before .before .before .before .before .before .before .before .before .before .verify-step .ensures))
 
 enum-known-turned : tie.Need-enum-known-turned Inv-loop μ-loop
-enum-known-turned c = search needs
+enum-known-turned c = c .match .keys2
 
 add-k : tie.Need-add-k Inv-loop μ-loop
 add-k c =

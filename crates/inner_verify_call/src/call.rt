@@ -1,44 +1,20 @@
 // The answer about a lent plan: refusals 1 to 6, then the steps and the counts.
 ghost use mathlib.Core.Path.{_≡_};
 ghost use Rattle.foundation.specs.Pattern.{lent};
-ghost use Rattle.foundation.specs.PlanCall.{sameCounts, held};
-ghost use Rattle.answers.specs.Answers.{verifyAnswerOf, verifyAnswer, countsIn};
+ghost use Rattle.foundation.specs.PlanCall.{held};
+ghost use Rattle.answers.specs.Answers.{verifyAnswerOf, verifyAnswer};
 ghost use Rattle.answers.specs.Stores.{lentPlan, planStores, workSizes, workStores};
-use crate::steps::VerifiedEnd;
-use crate::steps::verify_steps;
 use answers::PlanCounts;
 use answers::Refusal;
 use answers::VerifyAnswer;
+use inner_counts::same_counts;
 use inner_gathering::chain_rows;
 use inner_patterns::lengths_fit;
 use inner_patterns::pattern_fault;
 use inner_patterns::refusal_of;
 use inner_stores::clear_chains;
-
-// Whether two plans' counts are the same.
-fn same_counts(a: PlanCounts, b: PlanCounts) -> bool
-    ensures { λ r. ⌜ r ≡ sameCounts (countsIn a) (countsIn b) ⌝ }
-{
-    if a.n != b.n {
-        return false;
-    }
-    if a.entries != b.entries {
-        return false;
-    }
-    if a.l_subscripts != b.l_subscripts {
-        return false;
-    }
-    if a.u_subscripts != b.u_subscripts {
-        return false;
-    }
-    if a.l_slots != b.l_slots {
-        return false;
-    }
-    if a.u_slots != b.u_slots {
-        return false;
-    }
-    a.reads == b.reads
-}
+use inner_verifying::VerifiedEnd;
+use inner_verifying::verify_steps;
 
 // A lent plan of a pattern that passes, in work stores whose chains are cleared first. The work stores are left as they are: who calls it
 // clears them.

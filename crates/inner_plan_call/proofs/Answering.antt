@@ -2,7 +2,7 @@
 use mathlib.Core.Bool.{Bool, true, false}
 use mathlib.Core.List.{List}
 use mathlib.Core.Path.{_≡_, refl, sym, ap, subst, _∙_}
-use Prim.Native.Nat.{ℕ, suc}
+use Prim.Native.Nat.{ℕ, suc, _<_}
 use native.Mathlib.Omega.{arith}
 use lib.Dec.{eqb}
 use lib.ListN.{length, getD, replicate, length-replicate}
@@ -34,10 +34,10 @@ use Rattle.inner_gathering.proofs.Passing.{ready, fault-ready}
 use Rattle.inner_patterns.proofs.Sizing.{Lengths, fit-lengths, unfit, sizes-fit}
 use Rattle.inner_step.specs.Filled.{Filled, BothFilled}
 use Rattle.inner_step.proofs.Filled.{filled-none, filled-contains}
 use Rattle.inner_planning.specs.Course.{FitTo, EndedAs}
-use Rattle.inner_planning.specs.Outcome.{PlannedAs, endedAnswer}
+use Rattle.inner_plan_call.specs.Outcome.{PlannedAs, endedAnswer}
 use Rattle.inner_planning.specs.declared.steps.Ended.{Ended}
 use Rattle.inner_planning.specs.declared.steps.Ended.the-variants.{All, LowerAt, UpperAt}
 
 module _ (most : ℕ) (p : Lent) (stores : PlanStores) (work : WorkSizes) where
   -- a pattern with a fault is refused by its number
@@ -148,6 +148,12 @@ pub side-begins :
     → SideZeros subs starts slots subs′ starts′ slots′ → Filled s side n 0 (length subs′) subs′ starts′ slots′
 side-begins {s} {side} {n} {subs} {subs′ = subs′} {starts′} {slots′} a b zero =
     filled-none s side n (length subs′) subs′ starts′ slots′ (own-zeros subs subs′ (zero .subs-zero)) (rw a at (zero .starts-zero)) (rw b at (zero .slots-zero))
+
+-- ---- the end of the last slots
+
+-- it stands in a store that is cleared and written, and keeps its length
+pub last-inside : {n was cleared written : ℕ} → was ≡ suc n → cleared ≡ was → written ≡ cleared → n < written
+last-inside a b c = omega (arith, a, b, c)
 
 -- ---- the code's answers
 

@@ -1,17 +1,15 @@
 -- `judge_and_verify` meets its contract: the judgement, the lengths, the steps and the counts answer in the table's order, by laws of
 -- `Answering`. Assumes nothing.
 use mathlib.Core.Path.{refl, _∙_}
-use native.Mathlib.Omega.{arith}
-use borrow.Author.Needs.{needs}
 use borrow.Author.Tests.{not-true, not-false}
 use Rattle.inner_patterns.proofs.Faults.{fault-range}
-use Rattle.inner_gathering.proofs.Passing.{fault-few}
-use Rattle.inner_verifying.proofs.Answering.{verify-fault, verify-sizes, verify-rows-ask, verify-steps-ask, verify-places, verify-differs, verify-miscounts, verify-agrees}
-use Rattle.inner_verifying.proofs.call.judge_and_verify.Statement.{statement}
-use Rattle.inner_verifying.proofs.call.judge_and_verify.Tie as tie
+use Rattle.inner_gathering.proofs.Passing.{fault-few, fault-place}
+use Rattle.inner_verify_call.proofs.Answering.{verify-fault, verify-sizes, verify-rows-ask, verify-steps-ask, verify-places, verify-differs, verify-miscounts, verify-agrees}
+use Rattle.inner_verify_call.proofs.call.judge_and_verify.Statement.{statement}
+use Rattle.inner_verify_call.proofs.call.judge_and_verify.Tie as tie
 
 pattern-fault-requires : tie.Need-pattern-fault-requires
-pattern-fault-requires c κs = search needs
+pattern-fault-requires c κs = tt
 
 refusal-of-requires : tie.Need-refusal-of-requires
 refusal-of-requires c κs = fault-range _ _ _ _ _ (c .before .pattern-fault .ensures) (c .if1 .taken)
@@ -41,7 +39,7 @@ chain-rows-requires c κs =
     _ (c .before .before .before .before .before .pattern-fault .ensures) (c .before .before .before .before .if1 .left) _ (c .before .before .before .lengths-fit .ensures) (not-false _ (c .before .before .if2 .left))
 
 clear-chains-requires : tie.Need-clear-chains-requires
-clear-chains-requires c κs = search needs
+clear-chains-requires c κs = tt
 
 verify-steps-requires : tie.Need-verify-steps-requires
 verify-steps-requires c κs =
@@ -51,10 +49,10 @@ verify-steps-requires c κs =
     _ (c .before .before .before .before .before .before .before .before .before .before .before .before .before .before .before .before .before .before .before .before .before .before .before .pattern-fault .ensures) (c .before .before .before .before .before .before .before .before .before .before .before .before .before .before .before .before .before .before .before .before .before .before .if1 .left) _ (c .before .before .before .before .before .before .before .before .before .before .before .before .before .before .before .before .before .before .before .before .before .lengths-fit .ensures) (not-false _ (c .before .before .before .before .before .before .before .before .before .before .before .before .before .before .before .before .before .before .before .before .if2 .left)) (c .before .before .before .before .before .before .before .before .before .before .before .before .before .before .before .before .before .chain-rows .ensures) (c .before .before .before .before .before .before .before .before .before .before .clear-chains .ensures)
 
 enum-known-ended : tie.Need-enum-known-ended
-enum-known-ended c = search needs
+enum-known-ended c = c .match .keys1
 
 enum-told : tie.Need-enum-told
-enum-told c = search needs
+enum-told c = c .match .keys2
 
 same-length : tie.Need-same-length
 same-length c = c .before .before .before .before .before .before .before .before .before .before .before .before .before .before .before .before .before .before .before .before .before .before .before .before .before .before .before .before .chain-rows .kept .1 .1 .1 .0
@@ -82,33 +80,27 @@ returns-3 c =
     _ (c .before .before .before .before .before .before .before .before .before .before .before .before .before .before .before .before .before .before .before .before .before .before .before .before .before .before .before .before .before .before .before .before .before .before .pattern-fault .ensures) (c .before .before .before .before .before .before .before .before .before .before .before .before .before .before .before .before .before .before .before .before .before .before .before .before .before .before .before .before .before .before .before .before .before .if1 .left) _ (c .before .before .before .before .before .before .before .before .before .before .before .before .before .before .before .before .before .before .before .before .before .before .before .before .before .before .before .before .before .before .before .before .lengths-fit .ensures) (not-false _ (c .before .before .before .before .before .before .before .before .before .before .before .before .before .before .before .before .before .before .before .before .before .before .before .before .before .before .before .before .before .before .before .if2 .left)) (rw (c .enum-told .given .1) at (c .before .before .before .before .before .before .before .before .before .before .verify-steps .ensures))
 
 mul-t27 : tie.Need-mul-t27
-mul-t27 c = omega (arith, fault-few _ _ _ _ _ (c .before .before .before .before .before .before .before .before .before .before .before .before .before .before .before .before .before .before .before .before .before .before .before .before .before .before .before .before .before .before .before .before .before .before .before .pattern-fault .ensures) (c .before .before .before .before .before .before .before .before .before .before .before .before .before .before .before .before .before .before .before .before .before .before .before .before .before .before .before .before .before .before .before .before .before .before .if1 .left))
+mul-t27 c = fault-place _ _ _ _ _ (c .before .before .before .before .before .before .before .before .before .before .before .before .before .before .before .before .before .before .before .before .before .before .before .before .before .before .before .before .before .before .before .before .before .before .before .pattern-fault .ensures) (c .before .before .before .before .before .before .before .before .before .before .before .before .before .before .before .before .before .before .before .before .before .before .before .before .before .before .before .before .before .before .before .before .before .before .if1 .left)
 
 shared-slice-read-t28 : tie.Need-shared-slice-read-t28
 shared-slice-read-t28 c =
     let a = c .before .before .before .before .before .before .before .before .before .before .before .before .before .before .before .before .before .before .before .before .before .before .before .before .before .before .before .before .before .before .before .before .before .before .before .before .before .before .before .before .before .before .before .before .before .before .before .before .before .before .before .args in
-    omega (
-      arith,
-      verify-places (a .most) (a .n) (a .starts .now) (a .columns .now) (a .counts) (a .l-subs .now) (a .l-starts .now) (a .l-slots .now) (a .u-subs .now) (a .u-starts .now) (a .u-slots .now)
-          (a .row-heads .now) (a .row-links .now) (a .set-heads .now) (a .set-links .now) (a .list .now) (a .spare .now)
-          _ (c .before .before .before .before .before .before .before .before .before .before .before .before .before .before .before .before .before .before .before .before .before .before .before .before .before .before .before .before .before .before .before .before .before .before .before .before .pattern-fault .ensures) (c .before .before .before .before .before .before .before .before .before .before .before .before .before .before .before .before .before .before .before .before .before .before .before .before .before .before .before .before .before .before .before .before .before .before .before .if1 .left) _ (c .before .before .before .before .before .before .before .before .before .before .before .before .before .before .before .before .before .before .before .before .before .before .before .before .before .before .before .before .before .before .before .before .before .before .lengths-fit .ensures) (not-false _ (c .before .before .before .before .before .before .before .before .before .before .before .before .before .before .before .before .before .before .before .before .before .before .before .before .before .before .before .before .before .before .before .before .before .if2 .left)),
-    )
+    verify-places (a .most) (a .n) (a .starts .now) (a .columns .now) (a .counts) (a .l-subs .now) (a .l-starts .now) (a .l-slots .now) (a .u-subs .now) (a .u-starts .now) (a .u-slots .now)
+    (a .row-heads .now) (a .row-links .now) (a .set-heads .now) (a .set-links .now) (a .list .now) (a .spare .now)
+    _ (c .before .before .before .before .before .before .before .before .before .before .before .before .before .before .before .before .before .before .before .before .before .before .before .before .before .before .before .before .before .before .before .before .before .before .before .before .pattern-fault .ensures) (c .before .before .before .before .before .before .before .before .before .before .before .before .before .before .before .before .before .before .before .before .before .before .before .before .before .before .before .before .before .before .before .before .before .before .before .if1 .left) _ (c .before .before .before .before .before .before .before .before .before .before .before .before .before .before .before .before .before .before .before .before .before .before .before .before .before .before .before .before .before .before .before .before .before .before .lengths-fit .ensures) (not-false _ (c .before .before .before .before .before .before .before .before .before .before .before .before .before .before .before .before .before .before .before .before .before .before .before .before .before .before .before .before .before .before .before .before .before .if2 .left)) .0
 
 mul-t29 : tie.Need-mul-t29
-mul-t29 c = omega (arith, fault-few _ _ _ _ _ (c .before .before .before .before .before .before .before .before .before .before .before .before .before .before .before .before .before .before .before .before .before .before .before .before .before .before .before .before .before .before .before .before .before .before .before .before .pattern-fault .ensures) (c .before .before .before .before .before .before .before .before .before .before .before .before .before .before .before .before .before .before .before .before .before .before .before .before .before .before .before .before .before .before .before .before .before .before .before .if1 .left))
+mul-t29 c = fault-place _ _ _ _ _ (c .before .before .before .before .before .before .before .before .before .before .before .before .before .before .before .before .before .before .before .before .before .before .before .before .before .before .before .before .before .before .before .before .before .before .before .before .pattern-fault .ensures) (c .before .before .before .before .before .before .before .before .before .before .before .before .before .before .before .before .before .before .before .before .before .before .before .before .before .before .before .before .before .before .before .before .before .before .before .if1 .left)
 
 shared-slice-read-t30 : tie.Need-shared-slice-read-t30
 shared-slice-read-t30 c =
     let a = c .before .before .before .before .before .before .before .before .before .before .before .before .before .before .before .before .before .before .before .before .before .before .before .before .before .before .before .before .before .before .before .before .before .before .before .before .before .before .before .before .before .before .before .before .before .before .before .before .before .before .before .before .args in
-    omega (
-      arith,
-      verify-places (a .most) (a .n) (a .starts .now) (a .columns .now) (a .counts) (a .l-subs .now) (a .l-starts .now) (a .l-slots .now) (a .u-subs .now) (a .u-starts .now) (a .u-slots .now)
-          (a .row-heads .now) (a .row-links .now) (a .set-heads .now) (a .set-links .now) (a .list .now) (a .spare .now)
-          _ (c .before .before .before .before .before .before .before .before .before .before .before .before .before .before .before .before .before .before .before .before .before .before .before .before .before .before .before .before .before .before .before .before .before .before .before .before .before .pattern-fault .ensures) (c .before .before .before .before .before .before .before .before .before .before .before .before .before .before .before .before .before .before .before .before .before .before .before .before .before .before .before .before .before .before .before .before .before .before .before .before .if1 .left) _ (c .before .before .before .before .before .before .before .before .before .before .before .before .before .before .before .before .before .before .before .before .before .before .before .before .before .before .before .before .before .before .before .before .before .before .before .lengths-fit .ensures) (not-false _ (c .before .before .before .before .before .before .before .before .before .before .before .before .before .before .before .before .before .before .before .before .before .before .before .before .before .before .before .before .before .before .before .before .before .before .if2 .left)),
-    )
+    verify-places (a .most) (a .n) (a .starts .now) (a .columns .now) (a .counts) (a .l-subs .now) (a .l-starts .now) (a .l-slots .now) (a .u-subs .now) (a .u-starts .now) (a .u-slots .now)
+    (a .row-heads .now) (a .row-links .now) (a .set-heads .now) (a .set-links .now) (a .list .now) (a .spare .now)
+    _ (c .before .before .before .before .before .before .before .before .before .before .before .before .before .before .before .before .before .before .before .before .before .before .before .before .before .before .before .before .before .before .before .before .before .before .before .before .before .pattern-fault .ensures) (c .before .before .before .before .before .before .before .before .before .before .before .before .before .before .before .before .before .before .before .before .before .before .before .before .before .before .before .before .before .before .before .before .before .before .before .before .if1 .left) _ (c .before .before .before .before .before .before .before .before .before .before .before .before .before .before .before .before .before .before .before .before .before .before .before .before .before .before .before .before .before .before .before .before .before .before .before .lengths-fit .ensures) (not-false _ (c .before .before .before .before .before .before .before .before .before .before .before .before .before .before .before .before .before .before .before .before .before .before .before .before .before .before .before .before .before .before .before .before .before .before .if2 .left)) .1
 
 same-counts-requires : tie.Need-same-counts-requires
-same-counts-requires c κs = search needs
+same-counts-requires c κs = tt
 
 same-length-7 : tie.Need-same-length-7
 same-length-7 c = c .before .before .before .before .before .before .before .before .before .before .before .before .before .before .before .before .before .before .before .before .before .before .before .before .before .before .before .before .before .before .before .before .before .chain-rows .kept .1 .1 .1 .0

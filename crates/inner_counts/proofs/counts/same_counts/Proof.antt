@@ -1,7 +1,7 @@
 -- `same_counts` meets its contract: the first count that differs, or the last, decides. Assumes nothing.
-use Rattle.inner_verifying.proofs.Counting.{apart-n, apart-entries, apart-lower-subscripts, apart-upper-subscripts, apart-lower-slots, apart-upper-slots, last-count}
-use Rattle.inner_verifying.proofs.call.same_counts.Statement.{statement}
-use Rattle.inner_verifying.proofs.call.same_counts.Tie as tie
+use Rattle.inner_counts.proofs.Counting.{apart-n, apart-entries, apart-lower-subscripts, apart-upper-subscripts, apart-lower-slots, apart-upper-slots, last-count}
+use Rattle.inner_counts.proofs.counts.same_counts.Statement.{statement}
+use Rattle.inner_counts.proofs.counts.same_counts.Tie as tie
 
 returns : tie.Need-returns
 returns c = apart-n _ _ (c .if1 .taken)

@@ -171,11 +171,10 @@ module _ (most n : ℕ) (starts columns : List ℕ) (counts : PlanCounts) (lSubs
           )
 
       -- place n of the starts of the slots can be read
-      pub verify-places : (n < length lSlots) × (n < length uSlots) × (n ≤ 65536)
-      unfolding lent
+      pub verify-places : (n < length lSlots) × (n < length uSlots)
       verify-places =
           let f = fit-lengths n _ _ _ _ _ _ _ _ _ _ (sym tested ∙ fitted) in
-          (omega (arith, f .l-slots), omega (arith, f .u-slots), omega (arith, verify-ready .few))
+          (omega (arith, f .l-slots), omega (arith, f .u-slots))
 
       -- refusal 9, where a plan that agrees is none
       other : (agrees pattern (planOf pattern) lentOne ≡ true → ⊥) → verifyAnswerOf (Refused OtherPlan) ≡ verifyAnswer (held most pattern lentOne sizes)

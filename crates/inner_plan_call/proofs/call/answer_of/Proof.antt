@@ -1,20 +1,19 @@
 -- `answer_of` meets its contract: each ending of the steps is answered as it is. Assumes nothing.
-use borrow.Author.Needs.{needs}
-use Rattle.inner_planning.proofs.Answering.{answer-lower, answer-upper, answer-all}
-use Rattle.inner_planning.proofs.call.answer_of.Statement.{statement}
-use Rattle.inner_planning.proofs.call.answer_of.Tie as tie
+use Rattle.inner_plan_call.proofs.Answering.{answer-lower, answer-upper, answer-all}
+use Rattle.inner_plan_call.proofs.call.answer_of.Statement.{statement}
+use Rattle.inner_plan_call.proofs.call.answer_of.Tie as tie
 
 enum-known-ended : tie.Need-enum-known-ended
-enum-known-ended c = search needs
+enum-known-ended c = c .match .keys1
 
 enum-known-ended-2 : tie.Need-enum-known-ended-2
-enum-known-ended-2 c = search needs
+enum-known-ended-2 c = c .match .keys2
 
 enum-known-ended-3 : tie.Need-enum-known-ended-3
-enum-known-ended-3 c = search needs
+enum-known-ended-3 c = c .match .keys3
 
 counts-of-requires : tie.Need-counts-of-requires
-counts-of-requires c κs = search needs
+counts-of-requires c κs = tt
 
 returns : tie.Need-returns
 returns c = answer-lower _ _ _ _ _ _ (c .before .ended .given .1)

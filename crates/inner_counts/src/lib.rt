@@ -1,0 +1,4 @@
+// Two plans' counts compared.
+mod counts;
+
+pub use counts::same_counts;
