@@ -257,6 +257,10 @@ last-ready j read small =
       small = omega (arith, read .inside);
     }
 
+-- the list lies where its start and its length are read
+pub last-inside : {a b start count n : ℕ} → a + b ≤ n → start ≡ a → count ≡ b → start + count ≤ n
+last-inside inside s c = rw (s, c) inside
+
 -- the row first met
 pub row-of : {n : ℕ} {starts columns : List ℕ} {k row : ℕ} → JoinsLast (lent n starts columns) n k row → RowRead n starts columns row
 row-of {n} {starts} {columns} {k} {row} j = row-turn n starts columns (j .step .ready) k (j .step .low) (j .step .high) row (row-met j)

@@ -4,6 +4,8 @@ use mathlib.Core.Path.{_≡_, refl, sym, ap, _∙_}
 use Prim.Native.Nat.{ℕ, suc, _+_, _-_, _≤_, _<_}
 use native.Mathlib.Omega.{arith}
 use lib.ListN.{length, drop, getD, length-drop}
+use mir.Syntax.{w64}
+use mir.Val.{Fits}
 use Rattle.foundation.specs.Pattern.{Lent}
 use Rattle.foundation.specs.Plan.{Planning, Side}
 use Rattle.foundation.specs.Subscripts.{kept, shared, startAt, addedAt, soleStep, sharedEnd}
@@ -13,6 +15,10 @@ use Rattle.inner_gathering.proofs.Contains.{kept-length, used-next}
 use Rattle.inner_sharing.proofs.Adding.{shared-new, last-shared, contains-writable, written-added, written-start}
 use Rattle.inner_sharing.specs.Sharing.{lastShared, Writable}
 use Rattle.inner_appending.specs.Rest.{RestOf, RestWritable}
+
+-- what the code adds up
+pub rest-small : (s m : ℕ) → s + m < 4294967296 → Fits w64 m
+rest-small s m small = record { fits = omega arith }
 
 -- the list of step k, by what it adds
 module _ (p : Lent) (ok : Ready p) (side : Side) (n k t : ℕ) (rest subs starts slots : List ℕ) (end : ℕ) (same : p .n ≡ n) (low : 1 ≤ k) (high : k ≤ n)

@@ -2,12 +2,14 @@
 use mathlib.Core.Bool.{Bool, true, false, cond, _&&_, false≢true}
 use mathlib.Core.List.{List, [], _++_}
 use mathlib.Core.Path.{_≡_, refl, sym, ap, _∙_}
-use Prim.Native.Nat.{ℕ, suc, _+_, _-_, _≤_, _<_}
+use Prim.Native.Nat.{ℕ, suc, _+_, _-_, _*_, _^_, _≤_, _<_}
 use native.Mathlib.Decide.{decLe}
 use native.Mathlib.Omega.{arith}
 use lib.Dec.{eqb}
 use lib.ListN.{length, take, drop, getD, length-take, length-drop}
 use lib.Seq.{take-all, take-add, drop-append-seam}
+use mir.Syntax.{w64}
+use mir.Val.{Fits}
 use borrow.Author.Tests.{eqb-true, eq-eqb}
 use Rattle.lists.specs.Functions.{same}
 use Rattle.lists.proofs.Members.{and-left, and-right, and-both}
@@ -27,6 +29,12 @@ use Rattle.inner_sharing.specs.Sharing.{LastInside, lastShared, Writable, SoleR
 use Rattle.inner_sharing.proofs.Adding.{used-written, written-added, written-start, contains-inside, contains-shares, contains-writable, contains-sole-ready, sole-span, sole-added, sole-start, contains-used-sole}
 use Rattle.inner_sharing.proofs.Comparing.{same-equal, equal-same}
 use Rattle.inner_comparing.specs.Verifying.{Verifying}
+
+-- ---- where a list ends
+
+-- a place of one store and a number of another's places, added up
+pub sum-fits : {a b m n : ℕ} → a ≤ m → m * 8 < 2 ^ 63 → b ≤ n → n * 8 < 2 ^ 63 → Fits w64 (a + b)
+sum-fits l room k more = record { fits = omega arith }
 
 -- ---- one step more
 

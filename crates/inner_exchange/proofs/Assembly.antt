@@ -15,7 +15,7 @@ use Rattle.foundation.specs.Square.{Square}
 use Rattle.foundation.specs.Subscripts.{kept}
 use Rattle.inner_slots.specs.Shows.{ShowsAll}
 use Rattle.inner_slots.proofs.Grid.{above}
-use Rattle.inner_slots.proofs.Small.{next-le}
+use Rattle.lists.proofs.Small.{next-le}
 use Rattle.inner_exchange.specs.Exchange.{rowAt, ExchangeAsks, ExchangeLeaves}
 use Rattle.inner_trading.specs.Places.{ListAsks, ListLeaves, SlotOf}
 use Rattle.inner_trading.specs.Trading.{Traded, BeforeAsks, BeforeLeaves, BeyondAsks, BeyondLeaves}

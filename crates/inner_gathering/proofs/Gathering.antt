@@ -4,7 +4,7 @@ use mathlib.Core.List.{List, [], _∷_}
 use mathlib.Core.Logic.{⊎-elim}
 use mathlib.Core.Path.{_≡_, sym, ap, _∙_}
 use Prim.Native.Nat.{ℕ, zero, suc, _-_, _≤_, _<_}
-use native.Mathlib.Nat.{le-refl}
+use native.Mathlib.Nat.{le-refl, le-trans, le-of-lt}
 use native.Mathlib.Numerals.{add-one}
 use native.Mathlib.Omega.{arith}
 use lib.Dec.{eqb, leb}
@@ -24,6 +24,7 @@ use Rattle.foundation.proofs.Listed.{row-high, further-above}
 use Rattle.foundation.proofs.ReadsBound.{first-ascends}
 use Rattle.foundation.proofs.Steps.{plan-list, S-falls}
 use Rattle.inner_stores.specs.Chains.{Linked, span}
+use Rattle.lists.proofs.Small.{below-size, before-size}
 use Rattle.inner_gathering.specs.Ready.{Ready, planOf, sideOf}
 use Rattle.inner_gathering.specs.Gathering.{without, omit, Within, GrownIn}
 use Rattle.inner_gathering.specs.Contains.{Contains}
@@ -41,6 +42,9 @@ pub record RowRead (n : ℕ) (starts columns : List ℕ) (i : ℕ) : Type 0 wher
   pub rising : getD starts (i - 1) 0 ≤ getD starts i 0
   pub inside : getD starts i 0 ≤ length columns
   pub is : take (getD starts i 0 - getD starts (i - 1) 0) (drop (getD starts (i - 1) 0) columns) ≡ rowOf (lent n starts columns) i
+
+pub row-in-starts : {n i : ℕ} {starts columns : List ℕ} → RowRead n starts columns i → i < length starts
+row-in-starts r = below-size (r .high) (r .size)
 
 row-read : (n : ℕ) (starts columns : List ℕ) → Fitted n starts columns → (i : ℕ) → 1 ≤ i → i ≤ n → RowRead n starts columns i
 unfolding rowOf lent
@@ -279,6 +283,13 @@ pub record StepRead (p : Lent) (side : Side) (n k l : ℕ) (subs starts slots : 
   pub slots-size : length slots ≡ suc n
   pub opens : Opened (planOf p) side l subs starts slots
   pub within : Within k n (kept (planOf p) side l)
+
+module _ {p : Lent} {side : Side} {n k l : ℕ} {subs starts slots : List ℕ} (r : StepRead p side n k l subs starts slots) where
+  pub step-in-slots : l < length slots
+  step-in-slots = below-size (le-trans (le-of-lt (r .before)) (r .high)) (r .slots-size)
+
+  pub step-in-starts : l - 1 < length starts
+  step-in-starts = before-size (r .low) (le-trans (le-of-lt (r .before)) (r .high)) (r .starts-size)
 
 module _ {p : Lent} {side : Side} {n k first : ℕ} {links subs starts slots : List ℕ} {flipped : Bool} {count : ℕ} {list spare : List ℕ}
     (low : 1 ≤ k) (high : k ≤ n) (s : StepsReady p side n k first links subs starts slots flipped count list spare) where

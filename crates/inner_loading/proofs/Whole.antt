@@ -2,9 +2,11 @@
 use mathlib.Core.Bool.{true, false, false≢true}
 use mathlib.Core.List.{List, [], _∷_, map}
 use mathlib.Core.Path.{_≡_, refl, sym, ap, _∙_}
-use Prim.Native.Nat.{ℕ, zero, suc, _+_, _-_, _≤_, _<_}
+use Prim.Native.Nat.{ℕ, zero, suc, _+_, _-_, _*_, _^_, _≤_, _<_}
 use native.Mathlib.Numerals.{add-one, one-add}
 use native.Mathlib.Omega.{arith}
+use mir.Syntax.{w64}
+use mir.Val.{Fits}
 use lib.Dec.{eqb}
 use lib.Ieee.{Float, nan}
 use lib.ListN.{length, take, drop, getD, replicate, length-take, length-drop, replicate-append-replicate}
@@ -98,6 +100,34 @@ diagonal-read s n target l u d h k inside =
 
 lies-in : (p : Lent) (starts columns starts′ columns′ : List ℕ) (i : ℕ) → starts ≡ starts′ → columns ≡ columns′ → RowLies p starts columns i → RowLies p starts′ columns′ i
 lies-in p starts columns starts′ columns′ i e f h = rw (e, f) at h
+
+-- What the code asks of the numbers of the row behind place i, each fact as it asks it.
+pub record LineLends (starts columns : List ℕ) (values : List Float) (i : ℕ) : Type 0 where
+  pub here-in : i < length starts
+  pub here-fits : Fits w64 (i * 8)
+  pub sum-fits : Fits w64 (i + 1)
+  pub next-in : i + 1 < length starts
+  pub next-fits : Fits w64 ((i + 1) * 8)
+  pub from-fits : Fits w64 (getD starts i 0 * 8)
+  pub rises : getD starts i 0 ≤ getD starts (i + 1) 0
+  pub in-columns : getD starts (i + 1) 0 ≤ length columns
+  pub in-values : getD starts (i + 1) 0 ≤ length values
+
+pub line-lends : {n i : ℕ} (starts columns : List ℕ) (values : List Float) → i < n
+    → (length starts ≡ n + 1) × (getD starts i 0 ≤ getD starts (i + 1) 0) × (getD starts (i + 1) 0 ≤ length columns) × (getD starts (i + 1) 0 ≤ length values)
+    → length starts * 8 < 2 ^ 63 → length columns * 8 < 2 ^ 63 → LineLends starts columns values i
+line-lends starts columns values inside (size, rises, in-columns, in-values) starts-room columns-room =
+    record {
+      here-in = omega arith;
+      here-fits = record { fits = omega arith };
+      sum-fits = record { fits = omega arith };
+      next-in = omega arith;
+      next-fits = record { fits = omega arith };
+      from-fits = record { fits = omega arith };
+      rises = rises;
+      in-columns = in-columns;
+      in-values = in-values;
+    }
 
 -- places of the pattern have slots
 pub present-slot : (p : Pattern) (L U : ℕ → List ℕ) → Closed p L U → Plannable p → (i j : ℕ) → present p i j ≡ true → slotIn L U i j ≡ true

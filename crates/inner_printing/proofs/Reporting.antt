@@ -1,7 +1,8 @@
 -- The lines of the code are those of the definitions.
 use mathlib.Core.Path.{_≡_, refl}
 use mathlib.Core.List.{List, [], _∷_, map, append-nil, append-assoc}
-use Prim.Native.Nat.{ℕ, zero, suc}
+use Prim.Native.Nat.{ℕ, zero, suc, _+_, _*_, _≤_}
+use native.Mathlib.Omega.{arith}
 use lib.Ieee.{Float}
 use Rattle.lists.specs.Functions.{chain}
 use Rattle.lists.specs.Sets.{run, upto}
@@ -63,3 +64,18 @@ report-put p ran counts pivots solution updates f a b c d =
     (append-then (append-then (plan-put p ran counts (f .counted) a) (rows-put pivots (ran .end .pivots) (f .chosen) b))
     (rw (f .solved, solution-lines (ran .end) 1 (p .n)) at c))
     (updates-put updates (ran .end .updates) (f .summed) d)
+
+-- 8,192 places are room for the four parts, each of them ending where its bound says
+module _ {out counts pivots solution : ℕ} (sizes : (8192 ≤ out) × (counts ≤ 7) × (pivots ≤ 128) × (solution ≤ 128)) where
+  pub plan-room : 0 + 4 + 21 * counts + 1 ≤ out
+  plan-room = omega (arith, sizes)
+
+  pub rows-room : {planned out₁ : ℕ} → planned ≤ 0 + 4 + 21 * counts + 1 → out₁ ≡ out → planned + 4 + 21 * pivots + 1 ≤ out₁
+  rows-room p same = omega (arith, sizes)
+
+  pub values-room : {planned chosen out₂ : ℕ} → planned ≤ 0 + 4 + 21 * counts + 1 → chosen ≤ planned + 4 + 21 * pivots + 1 → out₂ ≡ out → chosen + 40 * solution ≤ out₂
+  values-room p q same = omega (arith, sizes)
+
+  pub updates-room : {planned chosen solved out₃ : ℕ} → planned ≤ 0 + 4 + 21 * counts + 1 → chosen ≤ planned + 4 + 21 * pivots + 1 → solved ≤ chosen + 40 * solution → out₃ ≡ out
+      → solved + 7 + 21 * 1 + 1 ≤ out₃
+  updates-room p q r same = omega (arith, sizes)

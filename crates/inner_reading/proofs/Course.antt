@@ -40,6 +40,14 @@ still-sized now was e z =
 pub start-written : (s : JobStores) → SameSizes (withEnds s (set (s .starts) 0 0) (s .right)) s
 start-written s = record { same-starts = simp length-set; same-columns = refl; same-values = refl; same-right = refl; same-rows = refl }
 
+-- there is room for it
+pub some-start : {s : JobStores} → Sized s → 0 < length (s .starts)
+some-start z = omega (arith, z .starts-room)
+
+-- and the starts keep their length
+pub starts-kept : {size mid : ℕ} (was : List ℕ) → size ≡ mid → mid ≡ length (set was 0 0) → size ≡ length was
+starts-kept was kept same = kept ∙ simp length-set at same
+
 -- a command after which reading goes on
 reading-more : (fuel : ℕ) (r q : Reading) (bytes rest : List ℕ) → more q rest ≡ next r bytes → reading (suc fuel) r bytes ≡ reading fuel q rest
 unfolding reading

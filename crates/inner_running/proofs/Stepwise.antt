@@ -4,6 +4,8 @@ use mathlib.Core.List.{List, [], _∷_, _++_, append-assoc}
 use mathlib.Core.Path.{_≡_, refl, sym, ap, _∙_}
 use Prim.Native.Nat.{ℕ, zero, suc, _+_, _-_, _*_, _≤_, _<_}
 use native.Mathlib.Omega.{arith}
+use mir.Syntax.{w64}
+use mir.Val.{Fits}
 use lib.Dec.{eqb}
 use lib.Ieee.{Float}
 use lib.ListN.{length, getD, set, replicate, length-append, length-set, length-replicate}
@@ -35,6 +37,22 @@ set-padded ps t n r size h =
     let before : n - length ps ≡ suc (n - suc t) = omega arith in
     let after : n - length (ps ++ r ∷ []) ≡ n - suc t = omega (arith, length-append ps (r ∷ [])) in
     rw (before, after, append-assoc) (set-at ps 0 (replicate (n - suc t) 0) r t size)
+
+-- ---- the numbers that the code makes
+
+-- step k's place, and the step behind it
+pub place-fits : {k : ℕ} → k ≤ 1024 → Fits w64 ((k - 1) * 8)
+place-fits small = record { fits = omega arith }
+
+pub next-fits : {k : ℕ} → k ≤ 1024 → Fits w64 (k + 1)
+next-fits small = record { fits = omega arith }
+
+pub updates-fit : {k updates more : ℕ} → k ≤ 1024 → updates ≤ k * 1048576 → more ≤ 1048576 → Fits w64 (updates + more)
+updates-fit small few more-few = record { fits = omega arith }
+
+-- the steps to come
+pub steps-less : {k count : ℕ} → k ≤ count → count + 1 - (k + 1) < count + 1 - k
+steps-less high = omega arith
 
 -- ---- a step
 

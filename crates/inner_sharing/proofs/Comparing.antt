@@ -44,6 +44,10 @@ unequal-same xs ys h = by-test (same xs ys) (λ e. absurd (h (same-equal xs ys e
 
 -- ---- a list that stands in a store
 
+-- the places that are compared
+pub stands-inside : (n at m i : ℕ) → at ≤ n → m ≤ n - at → i < m → at + i < n
+stands-inside n at m i inside room l = omega arith
+
 module _ (list store : List ℕ) (at : ℕ) where
   -- the store is too short
   pub stands-short : length store - at < length list → same (take (length list) (drop at store)) list ≡ false

@@ -2,16 +2,18 @@
 use mathlib.Core.List.{List, _++_}
 use mathlib.Core.Path.{_≡_}
 use Prim.Native.Nat.{ℕ, _+_, _-_, _≤_, _<_}
-use native.Mathlib.Nat.{sub-self}
+use native.Mathlib.Nat.{sub-self, le-of-lt}
 use native.Mathlib.Omega.{arith}
 use lib.Dec.{eqb}
-use lib.ListN.{length, take, drop, getD, length-drop}
+use lib.ListN.{length, take, drop, getD, length-take, length-drop}
 use lib.Seq.{take-all}
+use mir.Syntax.{w64}
+use mir.Val.{Fits}
 use borrow.Author.Tests.{eq-eqb, ne-eqb}
 use Rattle.lists.specs.Sets.{overlap}
 use Rattle.lists.proofs.Members.{by-test}
 use Rattle.inner_stores.specs.Chains.{span}
-use Rattle.inner_sharing.specs.Sharing.{LastInside, lastShared, soleStart}
+use Rattle.inner_sharing.specs.Sharing.{LastInside, lastShared, SoleReady, soleStart}
 
 -- before step 2 nothing is shared
 pub last-none : (k : ℕ) (new subs starts slots : List ℕ) (end : ℕ) → k < 2 → lastShared k new subs starts slots end ≡ 0
@@ -45,6 +47,18 @@ module _ (k count end : ℕ) (new subs starts slots : List ℕ) (reads : count �
   unfolding lastShared
   last-joined h = rw (← last-span, eq-eqb (getD starts (k - 2) 0 + count) end h)
 
+-- there is no room for the rest of a list
+pub too-short : (n end m : ℕ) → n - end < m → n < end + m
+too-short n end m h = omega arith
+
+-- there is
+pub long-enough : (n end m : ℕ) → end ≤ n → m ≤ n - end → end + m ≤ n
+long-enough n end m inside room = omega arith
+
+pub rest-fits : (t end : ℕ) (new subs : List ℕ) → end ≤ length subs → length new - t ≤ length subs - end
+    → end + length (take (length new - t) (drop t new)) ≤ length subs
+rest-fits t end new subs inside room = simp (length-take, length-drop) (omega arith)
+
 -- the rest of a list was written
 pub written-rest :
     (t end r : ℕ) (new subs subs′ : List ℕ)
@@ -56,6 +70,50 @@ written-rest t end r new subs subs′ h =
     simp (whole, length-drop) at h
 
 -- ---- the heir of a sole step
+
+-- the places of a sole step l and of its heir k, as the code asks for them
+pub record SolePlaces (k l : ℕ) (starts slots : List ℕ) : Type 0 where
+  pub low : 1 ≤ l
+  pub before-in-slots : l - 1 < length slots
+  pub in-slots : l < length slots
+  pub in-starts : l - 1 < length starts
+  pub rises : getD slots (l - 1) 0 ≤ getD slots l 0
+  pub heir-low : 1 ≤ k
+  pub heir-before-in-slots : k - 1 < length slots
+  pub heir-in-slots : k < length slots
+  pub heir-in-starts : k - 1 < length starts
+
+pub sole-places : (k l : ℕ) (starts slots : List ℕ) → SoleReady k l starts slots → SolePlaces k l starts slots
+sole-places k l starts slots r =
+    record {
+      low = r .low;
+      before-in-slots = omega (arith, r);
+      in-slots = omega (arith, r);
+      in-starts = omega (arith, r);
+      rises = le-of-lt (r .rising);
+      heir-low = omega (arith, r);
+      heir-before-in-slots = omega (arith, r);
+      heir-in-slots = r .slots-size;
+      heir-in-starts = omega (arith, r);
+    }
+
+-- the list of a sole step has a member; its heir's has one fewer
+module _ (a b : ℕ) {r : ℕ} where
+  pub sole-some : a < b → r ≡ b - a → 1 ≤ r
+  sole-some l got = omega arith
+
+  pub sole-one : a < b → r ≡ b - a → r - 1 ≡ 0 → b - a ≡ 1
+  sole-one l got none = omega arith
+
+  pub sole-none : r ≡ b - a → b - a ≡ 1 → r - 1 ≡ 0
+  sole-none got one = omega arith
+
+  pub heir-fits : (s : ℕ) → s + (b - a) < 4294967296 → r ≡ b - a → Fits w64 (s + (r - 1))
+  heir-fits s small got = record { fits = omega arith }
+
+-- it starts at the same place or behind it
+pub start-fits : (n d : ℕ) → n < 4294967296 → d ≤ 1 → Fits w64 (n + d)
+start-fits n d small few = record { fits = omega arith }
 
 module _ (l end : ℕ) (starts slots : List ℕ) where
   -- the heir of a list with one member has none, and starts at the store's end

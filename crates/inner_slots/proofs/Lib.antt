@@ -8,4 +8,3 @@ pub mod Exchange
 pub mod Sound
 pub mod Places
 pub mod Lies
-pub mod Small

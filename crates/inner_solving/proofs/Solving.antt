@@ -2,8 +2,10 @@
 use mathlib.Core.Bool.{true, false}
 use mathlib.Core.List.{List, map}
 use mathlib.Core.Path.{_≡_, refl, sym, ap, _∙_}
-use Prim.Native.Nat.{ℕ, suc, _+_, _-_, _≤_, _<_}
+use Prim.Native.Nat.{ℕ, suc, _+_, _-_, _*_, _^_, _≤_, _<_}
 use native.Mathlib.Omega.{arith}
+use mir.Syntax.{w64}
+use mir.Val.{Fits}
 use lib.Ieee.{Float, nan, fin, binary64, sub, ne}
 use lib.IntN.{pos}
 use lib.ListN.{length, take, drop, getD, set, length-map}
@@ -24,6 +26,7 @@ use Rattle.inner_slots.proofs.Grid.{no-slot-upper}
 use Rattle.inner_slots.proofs.Mapped.{set-map}
 use Rattle.inner_slots.proofs.Lies.{ListLies, list-lies, list-opens, list-ends, list-shows}
 use Rattle.inner_slots.proofs.Shows.{part}
+use Rattle.lists.proofs.Small.{Placed, placed}
 use Rattle.inner_solving.specs.Rows.{lessAll, Columns}
 use Rattle.inner_solving.proofs.Rows.{solved-sound, solved-value}
 
@@ -98,6 +101,41 @@ module _ (n : ℕ) (subs starts slots : List ℕ) (u d x₀ : List Float) (w : S
         ∙ rw (row-values, row-columns, e, w .diagonal, mapped-at right n i low high, mapped-at (λ k. (w .g .square) k k) n i low high)
         (solved-value n (w .g .square) right i list (w .grid .ascends upper i) (w .grid .bounded upper i)
         (λ j l m. rw (w .outside i j (no-slot-upper (w .s) n (w .grid) i j (omega arith) m)) zero-plus-zero))
+
+-- What the code asks of the numbers of row i, each fact as it asks it.
+pub record RowLends (i : ℕ) (subs starts slots : List ℕ) (u d x : List Float) : Type 0 where
+  pub before-in : i - 1 < length slots
+  pub here-in : i < length slots
+  pub here-fits : Fits w64 (i * 8)
+  pub in-starts : i - 1 < length starts
+  pub rises : getD slots (i - 1) 0 ≤ getD slots i 0
+  pub ends : getD slots i 0 ≤ length u
+  pub slot-fits : Fits w64 (getD slots (i - 1) 0 * 8)
+  pub start-fits : Fits w64 (getD starts (i - 1) 0 * 8)
+  pub close-fits : Fits w64 (getD starts (i - 1) 0 + (getD slots i 0 - getD slots (i - 1) 0))
+  pub opens : getD starts (i - 1) 0 ≤ getD starts (i - 1) 0 + (getD slots i 0 - getD slots (i - 1) 0)
+  pub closes : getD starts (i - 1) 0 + (getD slots i 0 - getD slots (i - 1) 0) ≤ length subs
+  pub own : Placed (length x) i
+  pub in-diagonal : i - 1 < length d
+
+pub row-lends : {n i : ℕ} {subs starts slots : List ℕ} (u d x : List Float) → 1 ≤ i → i ≤ n → length x ≡ n → ListLies n i subs starts slots × (length d ≡ n) × (getD slots i 0 ≤ length u)
+    → length subs * 8 < 2 ^ 63 → length slots * 8 < 2 ^ 63 → length u * 8 < 2 ^ 63 → RowLends i subs starts slots u d x
+row-lends u d x low high size (lies, d-size, ends) subs-room slots-room u-room =
+    record {
+      before-in = omega (arith, lies);
+      here-in = omega (arith, lies);
+      here-fits = record { fits = omega (arith, lies) };
+      in-starts = omega (arith, lies);
+      rises = lies .ordered;
+      ends = ends;
+      slot-fits = record { fits = omega (arith, lies) };
+      start-fits = record { fits = omega (arith, lies) };
+      close-fits = record { fits = omega (arith, lies) };
+      opens = omega arith;
+      closes = lies .closes;
+      own = placed (low, high) size (omega (arith, lies));
+      in-diagonal = omega arith;
+    }
 
 -- ---- row after row
 

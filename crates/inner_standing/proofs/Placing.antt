@@ -2,7 +2,8 @@
 use mathlib.Core.Path.{_≡_, refl, sym, _∙_}
 use mathlib.Core.Bool.{Bool, true, false, cond, _&&_, _||_, and-true, and-false}
 use mathlib.Core.List.{List}
-use Prim.Native.Nat.{ℕ, _+_, _≤_, _<_}
+use Prim.Native.Nat.{ℕ, _+_, _-_, _≤_, _<_}
+use native.Mathlib.Nat.{le-trans}
 use native.Mathlib.Numerals.{add-one}
 use native.Mathlib.Omega.{arith}
 use lib.Dec.{ltb, eqb}
@@ -14,7 +15,7 @@ use Rattle.foundation.specs.Job.{Reading, cutShort, misplaced, readN, readR, re
 use Rattle.inner_commands.specs.declared.Progress.{Progress}
 use Rattle.inner_commands.specs.declared.Turn.the-variants.{Refused}
 use Rattle.inner_commands.specs.Stores.{JobStores}
-use Rattle.inner_commands.specs.Progress.{Within, state, nextOf}
+use Rattle.inner_commands.specs.Progress.{Sound, Within, state, nextOf}
 
 -- the table of commands, by where reading stands
 module _ (r : Reading) (byte : ℕ) (bytes : List ℕ) where
@@ -125,6 +126,23 @@ module _ (job : List ℕ) (p : Progress) (within : Within (length job) p) where
       pub after-else : (byte ≡ 0x50 → ⊥) → (byte ≡ 0x5A → ⊥) → nextOf (Refused 15) job s ≡ next so-far (drop (p .at) job)
       unfolding state nextOf misplaced
       after-else n k = sym (next-at so-far job (p .at) (within .byte-left) ∙ command-after so-far byte _ begun outside every ∙ rw (ne-eqb byte 0x50 n, ne-eqb byte 0x5A k))
+
+-- stores of the job's sizes have room for what was read
+pub closed-room : {size room : ℕ} {p : Progress} → Sound size p → 128 ≤ room → p .closed ≤ room
+closed-room sound l = le-trans (sound .rows-left) (le-trans (sound .small) l)
+
+pub chosen-room : {size room : ℕ} {p : Progress} → Sound size p → 128 ≤ room → p .chosen ≤ room
+chosen-room sound l = le-trans (sound .picked) (le-trans (sound .small) l)
+
+pub entries-room : {size room : ℕ} {p : Progress} → Within size p → 1489 ≤ room → p .entries ≤ room
+entries-room within l = omega (arith, within .sound .bytes-used)
+
+-- how many rows P may still name
+pub some-left : {n chosen : ℕ} → 0 < n - chosen → chosen < n
+some-left l = omega arith
+
+pub none-left : {n chosen : ℕ} → n - chosen ≤ 0 → n ≤ chosen
+none-left l = omega arith
 
 -- no byte is left
 pub at-end : (job : List ℕ) (s : JobStores) (p : Progress) → length job ≤ p .at

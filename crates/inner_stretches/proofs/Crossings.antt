@@ -2,9 +2,11 @@
 use mathlib.Core.Bool.{Bool, true, false, _&&_}
 use mathlib.Core.List.{List, [], _∷_, _++_, append-nil}
 use mathlib.Core.Path.{_≡_, refl, sym, ap, _∙_}
-use Prim.Native.Nat.{ℕ, zero, suc, _+_, _-_, _≤_, _<_}
+use Prim.Native.Nat.{ℕ, zero, suc, _+_, _-_, _*_, _^_, _≤_, _<_}
 use native.Mathlib.Nat.{add-suc}
 use native.Mathlib.Omega.{arith}
+use mir.Syntax.{w64}
+use mir.Val.{Fits}
 use lib.Ieee.{Float, nan}
 use lib.ListN.{length, take, drop, getD, length-take, length-drop, take-append-drop, drop-of-length-le}
 use lib.Seq.{drop-drop, length-take-le, take-all, getD-take, getD-drop}
@@ -178,3 +180,17 @@ shared-cell subs over start count opening s e l from to =
 pub cell-inside : (own : List ℕ) (start cell x : ℕ) → Shared own start cell x → start ≤ cell → cell - start < length own → (cell - start < length own) × (getD own (cell - start) 0 ≡ x)
 unfolding Shared
 cell-inside own start cell x h from to = (to, h from (omega arith))
+
+-- ---- the numbers that the code makes
+
+pub sum-fits : (o c : ℕ) {n : ℕ} → o < n → n * 8 < 2 ^ 63 → c * 8 < 2 ^ 63 → Fits w64 (o + c)
+sum-fits o c inside room more = record { fits = omega arith }
+
+pub some-end : (o c : ℕ) → 0 < c → 1 ≤ o + c
+some-end o c some = omega arith
+
+pub stretch-size : (y values : List Float) (o c n : ℕ) → length y ≡ n → o + c ≤ n → length values ≡ c → length (take (o + c - o) (drop o y)) ≡ length values
+stretch-size y values o c n same within size = simp (length-take, length-drop) (omega arith)
+
+pub rest-size : (y : List Float) (own : List ℕ) (o : ℕ) → length y ≡ length own → length (take (length own - o) (drop o y)) ≡ length (take (length own - o) (drop o own))
+rest-size y own o same = simp (length-take, length-drop) (omega arith)

@@ -1,4 +1,4 @@
--- Laws of the finite sets and of the functions on lists that this crate defines.
+-- Laws of the finite sets and of the functions on lists that this crate defines, and small laws of the numbers that lists are reached by.
 pub mod Members
 pub mod Order
 pub mod Kept
@@ -7,3 +7,4 @@ pub mod Overlap
 pub mod Places
 pub mod Once
 pub mod Counting
+pub mod Small

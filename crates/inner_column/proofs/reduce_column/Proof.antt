@@ -1,22 +1,21 @@
 -- `reduce_column` meets its contract: four loops, one after the other.
-use Prim.Native.Nat.{_-_}
 use native.Mathlib.Omega.{arith}
-use borrow.Author.Needs.{needs}
+use Rattle.lists.proofs.Small.{index-fits}
 use Rattle.inner_column.proofs.Columns.{pivot-inside, right-asks, diagonal-asks, product-fits, column-leaves}
 use Rattle.inner_column.proofs.reduce_column.Statement.{statement}
 use Rattle.inner_column.proofs.reduce_column.Tie as tie
 
 sub-pivot : tie.Need-sub-pivot
-sub-pivot c = let f = c .before .before .before .before .before .before .pre .low in omega arith
+sub-pivot c = c .before .before .before .before .before .before .pre .low
 
 mul-pivot : tie.Need-mul-pivot
-mul-pivot c = let f = pivot-inside _ _ _ _ _ _ _ (c .before .before .before .before .before .before .pre) in search needs
+mul-pivot c = index-fits (pivot-inside _ _ _ _ _ _ _ (c .before .before .before .before .before .before .pre)) (c .before .before .before .before .before .before .good .1 .1 .1 .1 .0 .1)
 
 slice-read-pivot : tie.Need-slice-read-pivot
 slice-read-pivot c = pivot-inside _ _ _ _ _ _ _ (c .before .before .before .before .before .before .before .pre)
 
 divide-requires : tie.Need-divide-requires
-divide-requires c κs = search needs
+divide-requires c κs = tt
 
 reduce-right-requires : tie.Need-reduce-right-requires
 reduce-right-requires c κs = right-asks _ _ _ _ _ _ _ (c .before .before .before .before .before .before .before .before .before .before .before .before .before .pre) _ (c .before .before .before .before .divide .ensures .0)
@@ -25,19 +24,19 @@ reduce-diagonal-requires : tie.Need-reduce-diagonal-requires
 reduce-diagonal-requires c κs = diagonal-asks _ _ _ _ _ _ _ (c .before .before .before .before .before .before .before .before .before .before .before .before .before .before .before .before .before .before .pre) _ (c .before .before .before .before .before .before .before .before .before .divide .ensures .0)
 
 count-nonzero-requires : tie.Need-count-nonzero-requires
-count-nonzero-requires c κs = search needs
+count-nonzero-requires c κs = tt
 
 mul-t13 : tie.Need-mul-t13
 mul-t13 c = record { fits = omega (arith, product-fits _ _ _ _ _ _ _ (c .before .before .before .before .before .before .before .before .before .before .before .before .before .before .before .before .before .before .before .before .before .before .before .pre) _ _ (c .before .before .before .before .before .before .before .before .before .before .before .before .before .before .divide .ensures .3) (c .before .count-nonzero .ensures .1)) }
 
 same-length : tie.Need-same-length
-same-length c = search needs
+same-length c = c .before .before .before .before .before .before .before .before .before .before .before .before .before .before .divide .kept .0
 
 same-length-2 : tie.Need-same-length-2
-same-length-2 c = search needs
+same-length-2 c = c .before .before .before .before .reduce-diagonal .kept .0
 
 same-length-3 : tie.Need-same-length-3
-same-length-3 c = search needs
+same-length-3 c = c .before .before .before .before .before .before .before .before .before .reduce-right .kept .0
 
 returns : tie.Need-returns
 returns c = λ w. column-leaves _ _ _ _ _ _ _ w _ _ _ _ _ _ _ _ (c .before .before .before .before .before .before .before .before .before .before .before .before .before .before .divide .ensures) (c .before .before .before .before .before .before .before .before .before .reduce-right .ensures) (c .before .before .before .before .reduce-diagonal .ensures) (c .before .count-nonzero .ensures)

@@ -1,69 +1,69 @@
 -- `plan_job` meets its contract.
-use native.Mathlib.Omega.{arith}
+use Prim.Native.Nat.{zero-le}
+use Rattle.inner_lending.proofs.Arrays.{more-fits, more-within}
 use Rattle.inner_lending.proofs.Fitting.{job-planned}
-use borrow.Author.Needs.{needs}
 use Rattle.inner_lending.proofs.plan_job.Statement.{statement}
 use Rattle.inner_lending.proofs.plan_job.Tie as tie
 
 add-more : tie.Need-add-more
-add-more c = search needs
+add-more c = more-fits (c .before .before .before .before .before .before .before .before .pre .0)
 
 sub-plan : tie.Need-sub-plan
-sub-plan c = omega arith
+sub-plan c = zero-le
 
 part-row-heads-start : tie.Need-part-row-heads-start
-part-row-heads-start c = omega arith
+part-row-heads-start c = zero-le
 
 part-row-heads-end : tie.Need-part-row-heads-end
-part-row-heads-end c = search needs
+part-row-heads-end c = more-within (c .before .before .before .before .before .before .before .before .before .before .before .before .before .before .pre .0)
 
 sub-plan-2 : tie.Need-sub-plan-2
-sub-plan-2 c = omega arith
+sub-plan-2 c = zero-le
 
 part-row-links-start : tie.Need-part-row-links-start
-part-row-links-start c = omega arith
+part-row-links-start c = zero-le
 
 part-row-links-end : tie.Need-part-row-links-end
-part-row-links-end c = search needs
+part-row-links-end c = more-within (c .before .before .before .before .before .before .before .before .before .before .before .before .before .before .before .pre .0)
 
 sub-plan-3 : tie.Need-sub-plan-3
-sub-plan-3 c = omega arith
+sub-plan-3 c = zero-le
 
 part-set-heads-start : tie.Need-part-set-heads-start
-part-set-heads-start c = omega arith
+part-set-heads-start c = zero-le
 
 part-set-heads-end : tie.Need-part-set-heads-end
-part-set-heads-end c = search needs
+part-set-heads-end c = more-within (c .before .before .before .before .before .before .before .before .before .before .before .before .before .before .before .before .pre .0)
 
 sub-plan-4 : tie.Need-sub-plan-4
-sub-plan-4 c = omega arith
+sub-plan-4 c = zero-le
 
 part-set-links-start : tie.Need-part-set-links-start
-part-set-links-start c = omega arith
+part-set-links-start c = zero-le
 
 part-set-links-end : tie.Need-part-set-links-end
-part-set-links-end c = search needs
+part-set-links-end c = more-within (c .before .before .before .before .before .before .before .before .before .before .before .before .before .before .before .before .before .pre .0)
 
 sub-plan-5 : tie.Need-sub-plan-5
-sub-plan-5 c = omega arith
+sub-plan-5 c = zero-le
 
 part-list-start : tie.Need-part-list-start
-part-list-start c = omega arith
+part-list-start c = zero-le
 
 part-list-end : tie.Need-part-list-end
-part-list-end c = search needs
+part-list-end c = c .before .before .before .before .before .before .before .before .before .before .before .before .before .before .before .before .before .before .pre .0
 
 sub-plan-6 : tie.Need-sub-plan-6
-sub-plan-6 c = omega arith
+sub-plan-6 c = zero-le
 
 part-spare-start : tie.Need-part-spare-start
-part-spare-start c = omega arith
+part-spare-start c = zero-le
 
 part-spare-end : tie.Need-part-spare-end
-part-spare-end c = search needs
+part-spare-end c = c .before .before .before .before .before .before .before .before .before .before .before .before .before .before .before .before .before .before .before .pre .0
 
 plan-requires : tie.Need-plan-requires
-plan-requires c κs = search needs
+plan-requires c κs = tt
 
 same-length : tie.Need-same-length
 same-length c = c .before .before .before .before .before .before .before .before .before .before .before .before .before .before .before .before .before .before .plan .kept .1 .1 .1 .1 .0

@@ -2,13 +2,12 @@
 use mathlib.Core.List.{List, []}
 use mathlib.Core.Path.{_≡_, refl, sym, _∙_}
 use Prim.Native.Nat.{_≤_, _<_, _-_, _+_, _*_, _^_}
-use native.Mathlib.Omega.{arith}
 use lib.Ieee.{Float}
 use lib.ListN.{length, getD}
-use borrow.Author.Needs.{needs}
+use Rattle.lists.proofs.Small.{least, less, next-le}
 use Rattle.inner_slots.specs.Handing.{LoadAsks}
 use Rattle.inner_loading.specs.Rows.{Loaded}
-use Rattle.inner_loading.proofs.Whole.{target, line-lies, line-asks, line-leaves, all-start, all-end}
+use Rattle.inner_loading.proofs.Whole.{target, line-lies, LineLends, line-lends, line-asks, line-leaves, all-start, all-end}
 use Rattle.inner_loading.proofs.load.Statement.{statement}
 use Rattle.inner_loading.proofs.load.Tie as tie
 
@@ -22,15 +21,22 @@ Inv-loop n starts columns values right l-subs l-starts l-slots u-subs u-starts u
 abbrev μ-loop : tie.MeasureT-loop
 μ-loop n starts columns values right l-subs l-starts l-slots u-subs u-starts u-slots l₀ u₀ d₀ x i₀ l u d i = n - i
 
+-- the row at hand
+abbrev entry : tie.In-loop Inv-loop μ-loop → tie.Start Inv-loop μ-loop
+entry c = c .before .before .before .before .before .before .before .before .before .before .before .before .before .before .before .before .before .before .before .before
+
+line : (c : tie.In-loop Inv-loop μ-loop) → LineLends (entry c .args .starts .now) (entry c .args .columns .now) (entry c .args .values .now) (c .before .loop .i)
+line c = line-lends _ _ _ (c .loop-test .taken) (c .before .loop .inv .3 (c .loop-test .taken)) (entry c .good .1 .0 .1) (c .before .loop .inv .2)
+
 copy-requires : tie.Need-copy-requires Inv-loop μ-loop
 copy-requires c κs = let p = c .before .before .before .before .before .before .before .before .before .before .before .before .before .before .before .pre in p .x-size ∙ sym (p .right-size)
 
 loop-holds : tie.Need-loop-holds Inv-loop μ-loop
 loop-holds c =
     let p = c .before .before .before .before .before .before .before .before .before .before .before .before .before .before .before .before .before .before .pre in (
-      omega arith,
+      least _,
       (refl, refl, refl),
-      search needs,
+      c .before .before .before .before .before .before .before .before .before .before .before .before .before .before .before .before .before .before .good .1 .1 .0 .1,
       λ l.
           line-lies _ _ _ _ _ _ _ _ _ _ _ _ _ _ _ p _ l,
       λ x w.
@@ -38,103 +44,64 @@ loop-holds c =
     )
 
 mul-from : tie.Need-mul-from Inv-loop μ-loop
-mul-from c =
-    let b = c .before in
-    let f = b .loop .inv .3 (omega arith) in
-    search needs
+mul-from c = line c .here-fits
 
 shared-slice-read-from : tie.Need-shared-slice-read-from Inv-loop μ-loop
-shared-slice-read-from c =
-    let b = c .before .before in
-    let f = b .loop .inv .3 (omega arith) in
-    search needs
+shared-slice-read-from c = line (c .before) .here-in
 
 add-i : tie.Need-add-i Inv-loop μ-loop
-add-i c =
-    let b = c .before .before in
-    let f = b .loop .inv .3 (omega arith) in
-    search needs
+add-i c = line (c .before) .sum-fits
 
 mul-end : tie.Need-mul-end Inv-loop μ-loop
-mul-end c =
-    let b = c .before .before in
-    let f = b .loop .inv .3 (omega arith) in
-    search needs
+mul-end c = line (c .before) .next-fits
 
 shared-slice-read-end : tie.Need-shared-slice-read-end Inv-loop μ-loop
-shared-slice-read-end c =
-    let b = c .before .before .before in
-    let f = b .loop .inv .3 (omega arith) in
-    search needs
+shared-slice-read-end c = line (c .before .before) .next-in
 
 mul-load-row : tie.Need-mul-load-row Inv-loop μ-loop
-mul-load-row c =
-    let b = c .before .before .before in
-    let f = b .loop .inv .3 (omega arith) in
-    record { fits = omega (arith, f .1, f .2, b .loop .inv .2) }
+mul-load-row c = line (c .before .before) .from-fits
 
 sub-load-row : tie.Need-sub-load-row Inv-loop μ-loop
-sub-load-row c =
-    let b = c .before .before .before in
-    let f = b .loop .inv .3 (omega arith) in
-    search needs
+sub-load-row c = line (c .before .before) .rises
 
 part-load-row-start : tie.Need-part-load-row-start Inv-loop μ-loop
-part-load-row-start c =
-    let b = c .before .before .before in
-    let f = b .loop .inv .3 (omega arith) in
-    search needs
+part-load-row-start c = line (c .before .before) .rises
 
 part-load-row-end : tie.Need-part-load-row-end Inv-loop μ-loop
-part-load-row-end c =
-    let b = c .before .before .before in
-    let f = b .loop .inv .3 (omega arith) in
-    search needs
+part-load-row-end c = line (c .before .before) .in-columns
 
 mul-load-row-2 : tie.Need-mul-load-row-2 Inv-loop μ-loop
-mul-load-row-2 c =
-    let b = c .before .before .before .before in
-    let f = b .loop .inv .3 (omega arith) in
-    record { fits = omega (arith, f .1, f .2, b .loop .inv .2) }
+mul-load-row-2 c = line (c .before .before .before) .from-fits
 
 sub-load-row-2 : tie.Need-sub-load-row-2 Inv-loop μ-loop
-sub-load-row-2 c =
-    let b = c .before .before .before .before in
-    let f = b .loop .inv .3 (omega arith) in
-    search needs
+sub-load-row-2 c = line (c .before .before .before) .rises
 
 part-load-row-start-2 : tie.Need-part-load-row-start-2 Inv-loop μ-loop
-part-load-row-start-2 c =
-    let b = c .before .before .before .before in
-    let f = b .loop .inv .3 (omega arith) in
-    search needs
+part-load-row-start-2 c = line (c .before .before .before) .rises
 
 part-load-row-end-2 : tie.Need-part-load-row-end-2 Inv-loop μ-loop
-part-load-row-end-2 c =
-    let b = c .before .before .before .before in
-    let f = b .loop .inv .3 (omega arith) in
-    search needs
+part-load-row-end-2 c = line (c .before .before .before) .in-values
 
 load-row-requires : tie.Need-load-row-requires Inv-loop μ-loop
 load-row-requires c κs =
     let b = c .before .before .before .before .before .before .before .before in
     let p = c .before .before .before .before .before .before .before .before .before .before .before .before .before .before .before .before .before .before .before .before .before .before .before .before .before .before .before .pre in
-    line-asks _ _ _ _ _ _ _ _ _ _ _ _ _ _ _ p (b .loop .i) (omega arith) _ _ _ (b .loop .inv .4 _ p)
+    line-asks _ _ _ _ _ _ _ _ _ _ _ _ _ _ _ p (b .loop .i) (c .before .before .before .before .before .before .before .loop-test .taken) _ _ _ (b .loop .inv .4 _ p)
 
 loop-less : tie.Need-loop-less Inv-loop μ-loop
-loop-less c = let b = c .before .before .before .before .before .before .before .before .before .before .before .before .before .before .before in omega arith
+loop-less c = less _ _ (c .before .before .before .before .before .before .before .before .before .before .before .before .before .before .loop-test .taken)
 
 loop-again : tie.Need-loop-again Inv-loop μ-loop
 loop-again c =
     let b = c .before .before .before .before .before .before .before .before .before .before .before .before .before .before .before in
     let k = c .before .before .before .before .before .before .load-row .kept in
     let p = c .before .before .before .before .before .before .before .before .before .before .before .before .before .before .before .before .before .before .before .before .before .before .before .before .before .before .before .before .before .before .before .before .before .before .pre in (
-      omega arith,
+      next-le _ _ (c .before .before .before .before .before .before .before .before .before .before .before .before .before .before .loop-test .taken),
       (k .1 .1 .1 .1 .1 .1 .1 .1 .1 .0 ∙ b .loop .inv .1 .0, k .1 .1 .1 .1 .1 .1 .1 .1 .1 .1 .0 ∙ b .loop .inv .1 .1, k .1 .1 .1 .1 .1 .1 .1 .1 .1 .1 .1 .0 ∙ b .loop .inv .1 .2),
       b .loop .inv .2,
       λ l. line-lies _ _ _ _ _ _ _ _ _ _ _ _ _ _ _ p _ l,
       λ x w.
-          line-leaves _ _ _ _ _ _ _ _ _ _ _ _ _ _ _ w (b .loop .i) (omega arith) _ _ _ _ _ _ (b .loop .inv .4 x w) (c .before .before .before .before .before .before .load-row .ensures),
+          line-leaves _ _ _ _ _ _ _ _ _ _ _ _ _ _ _ w (b .loop .i) (c .before .before .before .before .before .before .before .before .before .before .before .before .before .before .loop-test .taken) _ _ _ _ _ _ (b .loop .inv .4 x w) (c .before .before .before .before .before .before .load-row .ensures),
     )
 
 same-length : tie.Need-same-length Inv-loop μ-loop
@@ -152,7 +119,7 @@ same-length-4 c = c .before .before .before .before .copy .kept .0
 returns : tie.Need-returns Inv-loop μ-loop
 returns c = λ w.
     let b = c .before in
-    all-end _ _ _ _ _ _ _ _ _ _ _ _ _ _ _ w (b .loop .i) _ _ _ _ (omega arith) (b .loop .inv .0) (b .loop .inv .4 _ w) (c .before .before .before .before .copy .ensures)
+    all-end _ _ _ _ _ _ _ _ _ _ _ _ _ _ _ w (b .loop .i) _ _ _ _ (c .loop-test .left) (b .loop .inv .0) (b .loop .inv .4 _ w) (c .before .before .before .before .copy .ensures)
 
 pub load-spec : {M : Type 1} → statement M
 load-spec =

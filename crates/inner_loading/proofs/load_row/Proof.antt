@@ -1,9 +1,8 @@
 -- `inner_loading::load_row` meets its contract: the columns before q are done.
 use mathlib.Core.Path.{_≡_, refl}
 use Prim.Native.Nat.{_≤_, _<_, _-_, _*_, _^_}
-use native.Mathlib.Omega.{arith}
 use lib.ListN.{length, take, length-set}
-use borrow.Author.Needs.{needs, scaled-fits}
+use Rattle.lists.proofs.Small.{least, less, next-le, still-below, room-same, index-fits, next-fits}
 use Rattle.inner_loading.specs.Rows.{RowAsks, Loaded}
 use Rattle.inner_loading.proofs.Lines.{row-lower-asks, row-upper-asks, row-lower-inside, row-upper-inside, row-diagonal-inside, row-lower, row-upper, row-diagonal, row-end}
 use Rattle.inner_loading.proofs.load_row.Statement.{statement}
@@ -19,85 +18,85 @@ abbrev μ-loop : tie.MeasureT-loop
 μ-loop i columns values l-subs l-starts l-slots u-subs u-starts u-slots l₀ u₀ d₀ q₀ l u d q = length columns - q
 
 loop-holds : tie.Need-loop-holds Inv-loop μ-loop
-loop-holds c = (omega arith, (refl, refl, refl), (search needs, search needs, search needs), λ w. w .loaded)
+loop-holds c = (least _, (refl, refl, refl), (c .before .before .before .before .before .before .before .before .before .before .before .good .1 .1 .1 .1 .1 .1 .1 .1 .1 .0 .1, c .before .before .before .before .before .before .before .before .before .before .before .good .1 .1 .1 .1 .1 .1 .1 .1 .1 .1 .0 .1, c .before .before .before .before .before .before .before .before .before .before .before .good .1 .1 .1 .1 .1 .1 .1 .1 .1 .1 .1 .0 .1), λ w. w .loaded)
 
 mul-j : tie.Need-mul-j Inv-loop μ-loop
-mul-j c = let many = c .before .before .before .before .before .before .before .before .before .before .before .before .before .pre .as-many in search needs
+mul-j c = index-fits (c .loop-test .taken) (c .before .before .before .before .before .before .before .before .before .before .before .before .before .good .1 .0 .1)
 
 shared-slice-read-j : tie.Need-shared-slice-read-j Inv-loop μ-loop
-shared-slice-read-j c = let many = c .before .before .before .before .before .before .before .before .before .before .before .before .before .before .pre .as-many in search needs
+shared-slice-read-j c = c .before .loop-test .taken
 
 mul-value : tie.Need-mul-value Inv-loop μ-loop
-mul-value c = let many = c .before .before .before .before .before .before .before .before .before .before .before .before .before .before .pre .as-many in search needs
+mul-value c = index-fits (c .before .loop-test .taken) (c .before .before .before .before .before .before .before .before .before .before .before .before .before .before .good .1 .0 .1)
 
 shared-slice-read-value : tie.Need-shared-slice-read-value Inv-loop μ-loop
-shared-slice-read-value c = let many = c .before .before .before .before .before .before .before .before .before .before .before .before .before .before .before .pre .as-many in search needs
+shared-slice-read-value c = still-below (c .before .before .loop-test .taken) (c .before .before .before .before .before .before .before .before .before .before .before .before .before .before .before .pre .as-many)
 
 add-q : tie.Need-add-q Inv-loop μ-loop
-add-q c = let many = c .before .before .before .before .before .before .before .before .before .before .before .before .before .before .before .pre .as-many in search needs
+add-q c = next-fits (c .before .before .loop-test .taken) (c .before .before .before .before .before .before .before .before .before .before .before .before .before .before .before .good .1 .0 .1)
 
 slot-of-requires : tie.Need-slot-of-requires Inv-loop μ-loop
 slot-of-requires c κs =
     let b = c .before .before .before .before in
     let p = b .before .before .before .before .before .before .before .before .before .before .before .before .pre in
-    row-lower-asks _ _ _ _ _ _ _ _ _ _ _ _ p _ (omega arith) (c .if1 .taken)
+    row-lower-asks _ _ _ _ _ _ _ _ _ _ _ _ p _ (c .before .before .before .loop-test .taken) (c .if1 .taken)
 
 mul-l : tie.Need-mul-l Inv-loop μ-loop
 mul-l c =
     let b = c .before .before .before .before .before in
     let p = b .before .before .before .before .before .before .before .before .before .before .before .before .pre in
-    let f = row-lower-inside _ _ _ _ _ _ _ _ _ _ _ _ p _ (omega arith) _ _ _ (b .loop .inv .3 p) _ (c .before .if1 .taken) (c .slot-of .ensures) in
-    scaled-fits _ _ 8 (omega (arith, f, b .loop .inv .1 .0)) (b .loop .inv .2 .0)
+    let f = row-lower-inside _ _ _ _ _ _ _ _ _ _ _ _ p _ (c .before .before .before .before .loop-test .taken) _ _ _ (b .loop .inv .3 p) _ (c .before .if1 .taken) (c .slot-of .ensures) in
+    index-fits f (room-same (b .loop .inv .1 .0) (b .loop .inv .2 .0))
 
 slice-write-l : tie.Need-slice-write-l Inv-loop μ-loop
 slice-write-l c =
     let b = c .before .before .before .before .before in
     let p = b .before .before .before .before .before .before .before .before .before .before .before .before .pre in
-    row-lower-inside _ _ _ _ _ _ _ _ _ _ _ _ p _ (omega arith) _ _ _ (b .loop .inv .3 p) _ (c .before .if1 .taken) (c .slot-of .ensures)
+    row-lower-inside _ _ _ _ _ _ _ _ _ _ _ _ p _ (c .before .before .before .before .loop-test .taken) _ _ _ (b .loop .inv .3 p) _ (c .before .if1 .taken) (c .slot-of .ensures)
 
 loop-less : tie.Need-loop-less Inv-loop μ-loop
-loop-less c = let b = c .before .before .before .before .before in omega arith
+loop-less c = less _ _ (c .before .before .before .before .loop-test .taken)
 
 loop-again : tie.Need-loop-again Inv-loop μ-loop
 loop-again c =
     let b = c .before .before .before .before .before in (
-      omega arith,
+      next-le _ _ (c .before .before .before .before .loop-test .taken),
       (simp length-set (b .loop .inv .1 .0), b .loop .inv .1 .1, b .loop .inv .1 .2),
       b .loop .inv .2,
       λ w.
-          row-lower _ _ _ _ _ _ _ _ _ _ _ _ w _ (omega arith) _ _ _ (b .loop .inv .3 w) _ (c .before .if1 .taken) (c .slot-of .ensures),
+          row-lower _ _ _ _ _ _ _ _ _ _ _ _ w _ (c .before .before .before .before .loop-test .taken) _ _ _ (b .loop .inv .3 w) _ (c .before .if1 .taken) (c .slot-of .ensures),
     )
 
 slot-of-requires-2 : tie.Need-slot-of-requires-2 Inv-loop μ-loop
 slot-of-requires-2 c κs =
     let b = c .before .before .before .before .before in
     let p = b .before .before .before .before .before .before .before .before .before .before .before .before .pre in
-    row-upper-asks _ _ _ _ _ _ _ _ _ _ _ _ p _ (omega arith) (c .if2 .taken)
+    row-upper-asks _ _ _ _ _ _ _ _ _ _ _ _ p _ (c .before .before .before .before .loop-test .taken) (c .if2 .taken)
 
 mul-u : tie.Need-mul-u Inv-loop μ-loop
 mul-u c =
     let b = c .before .before .before .before .before .before in
     let p = b .before .before .before .before .before .before .before .before .before .before .before .before .pre in
-    let f = row-upper-inside _ _ _ _ _ _ _ _ _ _ _ _ p _ (omega arith) _ _ _ (b .loop .inv .3 p) _ (c .before .if2 .taken) (c .slot-of2 .ensures) in
-    scaled-fits _ _ 8 (omega (arith, f, b .loop .inv .1 .1)) (b .loop .inv .2 .1)
+    let f = row-upper-inside _ _ _ _ _ _ _ _ _ _ _ _ p _ (c .before .before .before .before .before .loop-test .taken) _ _ _ (b .loop .inv .3 p) _ (c .before .if2 .taken) (c .slot-of2 .ensures) in
+    index-fits f (room-same (b .loop .inv .1 .1) (b .loop .inv .2 .1))
 
 slice-write-u : tie.Need-slice-write-u Inv-loop μ-loop
 slice-write-u c =
     let b = c .before .before .before .before .before .before in
     let p = b .before .before .before .before .before .before .before .before .before .before .before .before .pre in
-    row-upper-inside _ _ _ _ _ _ _ _ _ _ _ _ p _ (omega arith) _ _ _ (b .loop .inv .3 p) _ (c .before .if2 .taken) (c .slot-of2 .ensures)
+    row-upper-inside _ _ _ _ _ _ _ _ _ _ _ _ p _ (c .before .before .before .before .before .loop-test .taken) _ _ _ (b .loop .inv .3 p) _ (c .before .if2 .taken) (c .slot-of2 .ensures)
 
 loop-less-2 : tie.Need-loop-less-2 Inv-loop μ-loop
-loop-less-2 c = let b = c .before .before .before .before .before .before in omega arith
+loop-less-2 c = less _ _ (c .before .before .before .before .before .loop-test .taken)
 
 loop-again-2 : tie.Need-loop-again-2 Inv-loop μ-loop
 loop-again-2 c =
     let b = c .before .before .before .before .before .before in (
-      omega arith,
+      next-le _ _ (c .before .before .before .before .before .loop-test .taken),
       (b .loop .inv .1 .0, simp length-set (b .loop .inv .1 .1), b .loop .inv .1 .2),
       b .loop .inv .2,
       λ w.
-          row-upper _ _ _ _ _ _ _ _ _ _ _ _ w _ (omega arith) _ _ _ (b .loop .inv .3 w) _ (c .before .if2 .taken) (c .slot-of2 .ensures),
+          row-upper _ _ _ _ _ _ _ _ _ _ _ _ w _ (c .before .before .before .before .before .loop-test .taken) _ _ _ (b .loop .inv .3 w) _ (c .before .if2 .taken) (c .slot-of2 .ensures),
     )
 
 sub-d : tie.Need-sub-d Inv-loop μ-loop
@@ -107,26 +106,26 @@ mul-d : tie.Need-mul-d Inv-loop μ-loop
 mul-d c =
     let b = c .before .before .before .before .before in
     let p = b .before .before .before .before .before .before .before .before .before .before .before .before .pre in
-    let f = row-diagonal-inside _ _ _ _ _ _ _ _ _ _ _ _ p (b .loop .q) (omega arith) _ _ _ (b .loop .inv .3 p) in
-    scaled-fits _ (length (c .before .before .before .before .before .before .before .before .before .before .before .before .before .before .before .before .before .args .d .now)) 8 (omega (arith, f, b .loop .inv .1 .2)) (b .loop .inv .2 .2)
+    let f = row-diagonal-inside _ _ _ _ _ _ _ _ _ _ _ _ p (b .loop .q) (c .before .before .before .before .loop-test .taken) _ _ _ (b .loop .inv .3 p) in
+    index-fits f (room-same (b .loop .inv .1 .2) (b .loop .inv .2 .2))
 
 slice-write-d : tie.Need-slice-write-d Inv-loop μ-loop
 slice-write-d c =
     let b = c .before .before .before .before .before in
     let p = b .before .before .before .before .before .before .before .before .before .before .before .before .pre in
-    row-diagonal-inside _ _ _ _ _ _ _ _ _ _ _ _ p (b .loop .q) (omega arith) _ _ _ (b .loop .inv .3 p)
+    row-diagonal-inside _ _ _ _ _ _ _ _ _ _ _ _ p (b .loop .q) (c .before .before .before .before .loop-test .taken) _ _ _ (b .loop .inv .3 p)
 
 loop-less-3 : tie.Need-loop-less-3 Inv-loop μ-loop
-loop-less-3 c = let b = c .before .before .before .before .before in omega arith
+loop-less-3 c = less _ _ (c .before .before .before .before .loop-test .taken)
 
 loop-again-3 : tie.Need-loop-again-3 Inv-loop μ-loop
 loop-again-3 c =
     let b = c .before .before .before .before .before in (
-      omega arith,
+      next-le _ _ (c .before .before .before .before .loop-test .taken),
       (b .loop .inv .1 .0, b .loop .inv .1 .1, simp length-set (b .loop .inv .1 .2)),
       b .loop .inv .2,
       λ w.
-          row-diagonal _ _ _ _ _ _ _ _ _ _ _ _ w _ (omega arith) _ _ _ (b .loop .inv .3 w) (c .before .if1 .left) (c .if2 .left),
+          row-diagonal _ _ _ _ _ _ _ _ _ _ _ _ w _ (c .before .before .before .before .loop-test .taken) _ _ _ (b .loop .inv .3 w) (c .before .if1 .left) (c .if2 .left),
     )
 
 same-length : tie.Need-same-length Inv-loop μ-loop
@@ -139,7 +138,7 @@ same-length-3 : tie.Need-same-length-3 Inv-loop μ-loop
 same-length-3 c = c .before .loop .inv .1 .2
 
 returns : tie.Need-returns Inv-loop μ-loop
-returns c = λ w. row-end _ _ _ _ _ _ _ _ _ _ _ _ w (c .before .loop .q) _ _ _ (omega arith) (c .before .loop .inv .3 w)
+returns c = λ w. row-end _ _ _ _ _ _ _ _ _ _ _ _ w (c .before .loop .q) _ _ _ (c .loop-test .left) (c .before .loop .inv .3 w)
 
 pub load-row-spec : {M : Type 1} → statement M
 load-row-spec =

@@ -1,13 +1,11 @@
 -- `read_commands` meets its contract: between two commands reading what is left gives the answer of the whole job, and the bytes left are the measure.
 use mathlib.Core.Path.{refl, _∙_}
 use Prim.Native.Nat.{_-_}
-use native.Mathlib.Omega.{arith}
-use borrow.Author.Needs.{needs}
-use lib.ListN.{length, length-set}
+use lib.ListN.{length}
 use Rattle.inner_commands.specs.Progress.{Onward}
 use Rattle.inner_reading.specs.Ending.{Ended, Going}
 use Rattle.inner_commands.specs.Stores.{storesOf}
-use Rattle.inner_reading.proofs.Course.{SameSizes, still-sized, start-written, loop-start, loop-more, loop-refused, loop-read, loop-falls}
+use Rattle.inner_reading.proofs.Course.{SameSizes, still-sized, start-written, some-start, starts-kept, loop-start, loop-more, loop-refused, loop-read, loop-falls}
 use Rattle.inner_reading.proofs.read_commands.Statement.{statement}
 use Rattle.inner_reading.proofs.read_commands.Tie as tie
 
@@ -20,13 +18,13 @@ abbrev μ-loop : tie.MeasureT-loop
 μ-loop job starts₀ columns₀ values₀ right₀ rows₀ p₀ starts columns values right rows p = length job - p .at
 
 slice-write-starts : tie.Need-slice-write-starts Inv-loop μ-loop
-slice-write-starts c = omega (arith, c .before .before .before .before .before .before .pre .1 .starts-room)
+slice-write-starts c = some-start (c .before .before .before .before .before .before .pre .1)
 
 loop-holds : tie.Need-loop-holds Inv-loop μ-loop
 loop-holds c =
     let b = c .before .before .before .before .before .before in
     let s = storesOf (b .args .starts .now) (b .args .columns .now) (b .args .values .now) (b .args .right .now) (b .args .rows .now) in (
-      loop-start (b .args .job .now) s (omega (arith, b .pre .1 .starts-room)),
+      loop-start (b .args .job .now) s (some-start (b .pre .1)),
       record { same-starts = refl; same-columns = refl; same-values = refl; same-right = refl; same-rows = refl },
     )
 
@@ -38,7 +36,7 @@ read-next-requires c κs =
     (l .inv .0 .bounds, b .pre .0, still-sized _ _ (l .inv .1) (still-sized _ s (start-written s) (b .pre .1)))
 
 enum-known-turn : tie.Need-enum-known-turn Inv-loop μ-loop
-enum-known-turn c = search needs
+enum-known-turn c = c .match .keys1
 
 loop-less : tie.Need-loop-less Inv-loop μ-loop
 loop-less c =
@@ -62,10 +60,10 @@ loop-again c =
     )
 
 enum-known-turn-2 : tie.Need-enum-known-turn-2 Inv-loop μ-loop
-enum-known-turn-2 c = search needs
+enum-known-turn-2 c = c .match .keys2
 
 same-length : tie.Need-same-length Inv-loop μ-loop
-same-length c = c .before .before .before .before .before .before .before .before .before .before .before .before .before .read-next .kept .1 .1 .0 ∙ simp length-set at (c .before .before .before .before .before .before .before .before .before .before .before .before .before .before .before .before .before .before .before .loop .inv .1 .same-starts)
+same-length c = starts-kept (c .before .before .before .before .before .before .before .before .before .before .before .before .before .before .before .before .before .before .before .before .before .before .before .before .before .before .args .starts .now) (c .before .before .before .before .before .before .before .before .before .before .before .before .before .read-next .kept .1 .1 .0) (c .before .before .before .before .before .before .before .before .before .before .before .before .before .before .before .before .before .before .before .loop .inv .1 .same-starts)
 
 same-length-2 : tie.Need-same-length-2 Inv-loop μ-loop
 same-length-2 c = c .before .before .before .before .before .before .before .before .before .before .before .before .before .read-next .kept .1 .1 .1 .0 ∙ c .before .before .before .before .before .before .before .before .before .before .before .before .before .before .before .before .before .before .before .loop .inv .1 .same-columns
@@ -91,10 +89,10 @@ returns c =
     )
 
 enum-known-turn-3 : tie.Need-enum-known-turn-3 Inv-loop μ-loop
-enum-known-turn-3 c = search needs
+enum-known-turn-3 c = c .match .keys3
 
 same-length-6 : tie.Need-same-length-6 Inv-loop μ-loop
-same-length-6 c = c .before .before .before .before .before .before .before .before .before .before .before .before .before .read-next .kept .1 .1 .0 ∙ simp length-set at (c .before .before .before .before .before .before .before .before .before .before .before .before .before .before .before .before .before .before .before .loop .inv .1 .same-starts)
+same-length-6 c = starts-kept (c .before .before .before .before .before .before .before .before .before .before .before .before .before .before .before .before .before .before .before .before .before .before .before .before .before .before .args .starts .now) (c .before .before .before .before .before .before .before .before .before .before .before .before .before .read-next .kept .1 .1 .0) (c .before .before .before .before .before .before .before .before .before .before .before .before .before .before .before .before .before .before .before .loop .inv .1 .same-starts)
 
 same-length-7 : tie.Need-same-length-7 Inv-loop μ-loop
 same-length-7 c = c .before .before .before .before .before .before .before .before .before .before .before .before .before .read-next .kept .1 .1 .1 .0 ∙ c .before .before .before .before .before .before .before .before .before .before .before .before .before .before .before .before .before .before .before .loop .inv .1 .same-columns

@@ -1,9 +1,7 @@
 -- `read_job` meets its contract.
-use native.Mathlib.Omega.{arith}
 use Rattle.inner_commands.specs.Stores.{storesOf}
 use Rattle.inner_reading.specs.Read.{Bounded}
 use Rattle.inner_reading.proofs.Course.{long-refused, refused-whole, read-whole, read-bounded}
-use borrow.Author.Needs.{needs}
 use Rattle.inner_reading.proofs.read_job.Statement.{statement}
 use Rattle.inner_reading.proofs.read_job.Tie as tie
 
@@ -14,13 +12,13 @@ returns c =
     (long-refused (b .args .job .now) (storesOf (b .args .starts .now) (b .args .columns .now) (b .args .values .now) (b .args .right .now) (b .args .rows .now)) (c .if1 .taken), tt)
 
 read-commands-requires : tie.Need-read-commands-requires
-read-commands-requires c κs = (omega (arith, c .before .before .before .before .before .if1 .left), c .before .before .before .before .before .before .before .before .before .before .before .before .pre)
+read-commands-requires c κs = (c .before .before .before .before .before .if1 .left, c .before .before .before .before .before .before .before .before .before .before .before .before .pre)
 
 enum-known-ending : tie.Need-enum-known-ending
-enum-known-ending c = search needs
+enum-known-ending c = c .match .keys1
 
 enum-known-ending-2 : tie.Need-enum-known-ending-2
-enum-known-ending-2 c = search needs
+enum-known-ending-2 c = c .match .keys2
 
 same-length : tie.Need-same-length
 same-length c = c .before .before .before .before .before .before .before .before .before .before .before .before .before .read-commands .kept .1 .0
@@ -42,7 +40,7 @@ unfolding Bounded
 returns-2 c =
     let n = c .before .before .before .before .before .before .before .before .before .before .before .before .before .read-commands in
     let t = c .before .ending .given in
-    (refused-whole (c .before .before .before .before .before .before .before .before .before .before .before .before .before .before .before .before .before .before .before .before .before .before .before .before .before .before .args .job .now) (storesOf (n .last .1 .0) (n .last .1 .1 .0) (n .last .1 .1 .1 .0) (n .last .1 .1 .1 .1 .0) (n .last .1 .1 .1 .1 .1 .0)) _ (omega (arith, c .before .before .before .before .before .before .before .before .before .before .before .before .before .before .before .before .before .before .before .if1 .left)) (rw (t .1) at (n .ensures .0)), tt)
+    (refused-whole (c .before .before .before .before .before .before .before .before .before .before .before .before .before .before .before .before .before .before .before .before .before .before .before .before .before .before .args .job .now) (storesOf (n .last .1 .0) (n .last .1 .1 .0) (n .last .1 .1 .1 .0) (n .last .1 .1 .1 .1 .0) (n .last .1 .1 .1 .1 .1 .0)) _ (c .before .before .before .before .before .before .before .before .before .before .before .before .before .before .before .before .before .before .before .if1 .left) (rw (t .1) at (n .ensures .0)), tt)
 
 same-length-6 : tie.Need-same-length-6
 same-length-6 c = c .before .before .before .before .before .before .before .before .before .before .before .before .before .read-commands .kept .1 .0
@@ -64,8 +62,8 @@ returns-3 c =
     let n = c .before .before .before .before .before .before .before .before .before .before .before .before .before .read-commands in
     let t = c .before .ending2 .given in
     let e = rw (t .1) at (n .ensures .1) in (
-      read-whole (c .before .before .before .before .before .before .before .before .before .before .before .before .before .before .before .before .before .before .before .before .before .before .before .before .before .before .args .job .now) (storesOf (n .last .1 .0) (n .last .1 .1 .0) (n .last .1 .1 .1 .0) (n .last .1 .1 .1 .1 .0) (n .last .1 .1 .1 .1 .1 .0)) _ (omega (arith, c .before .before .before .before .before .before .before .before .before .before .before .before .before .before .before .before .before .before .before .if1 .left)) e (rw (t .1) at (n .ensures .0)),
-      read-bounded _ _ (omega (arith, c .before .before .before .before .before .before .before .before .before .before .before .before .before .before .before .before .before .before .before .if1 .left)) e,
+      read-whole (c .before .before .before .before .before .before .before .before .before .before .before .before .before .before .before .before .before .before .before .before .before .before .before .before .before .before .args .job .now) (storesOf (n .last .1 .0) (n .last .1 .1 .0) (n .last .1 .1 .1 .0) (n .last .1 .1 .1 .1 .0) (n .last .1 .1 .1 .1 .1 .0)) _ (c .before .before .before .before .before .before .before .before .before .before .before .before .before .before .before .before .before .before .before .if1 .left) e (rw (t .1) at (n .ensures .0)),
+      read-bounded _ _ (c .before .before .before .before .before .before .before .before .before .before .before .before .before .before .before .before .before .before .before .if1 .left) e,
     )
 
 pub read-job-spec : {M : Type 1} → statement M

@@ -2,30 +2,29 @@
 use mathlib.Core.Path.{_∙_}
 use native.Mathlib.Omega.{arith}
 use Rattle.inner_commands.specs.Progress.{withRows, Onward}
-use Rattle.inner_standing.proofs.Placing.{at-p, p-full, at-z-none, at-z-all, z-some, after-else}
-use borrow.Author.Needs.{needs}
+use Rattle.inner_standing.proofs.Placing.{at-p, p-full, at-z-none, at-z-all, z-some, after-else, chosen-room, some-left, none-left}
 use Rattle.inner_standing.proofs.read_after_rows.Statement.{statement}
 use Rattle.inner_standing.proofs.read_after_rows.Tie as tie
 
 shared-slice-read-byte : tie.Need-shared-slice-read-byte
-shared-slice-read-byte c = search needs
+shared-slice-read-byte c = c .before .before .before .pre .0 .byte-left
 
 sub-left : tie.Need-sub-left
-sub-left c = search needs
+sub-left c = c .before .before .before .before .pre .0 .sound .picked
 
 read-p-requires : tie.Need-read-p-requires
-read-p-requires c κs = search needs
+read-p-requires c κs = (c .before .before .before .before .before .before .before .pre .0, some-left (c .before .if2 .taken), c .before .before .before .before .before .before .before .pre .4)
 
 same-length : tie.Need-same-length
-same-length c = search needs
+same-length c = c .before .before .read-p .kept .1 .1 .0
 
 returns : tie.Need-returns
 returns c =
     let b = c .before .before .before .before .before .before .before .before .before .before in (
       λ s room.
           c .before .before .read-p .ensures .0 s
-          ∙ at-p (b .args .job .now) (b .args .p) (b .pre .0) (withRows s (b .args .rows .now)) (b .pre .1) (b .pre .3) (b .pre .2) room (omega (arith, b .pre .0 .sound .picked, b .pre .0 .sound .small, b .pre .4))
-          (c .before .before .before .before .before .if1 .taken) (omega (arith, c .before .before .before .before .if2 .taken)),
+          ∙ at-p (b .args .job .now) (b .args .p) (b .pre .0) (withRows s (b .args .rows .now)) (b .pre .1) (b .pre .3) (b .pre .2) room (chosen-room (b .pre .0 .sound) (b .pre .4))
+          (c .before .before .before .before .before .if1 .taken) (some-left (c .before .before .before .before .if2 .taken)),
       c .before .before .read-p .ensures .1,
     )
 
@@ -34,33 +33,33 @@ unfolding Onward
 returns-2 c =
     let b = c .before .before .before .before .before .before in (
       λ s room.
-          p-full (b .args .job .now) (b .args .p) (b .pre .0) (withRows s (b .args .rows .now)) (b .pre .1) (b .pre .3) (b .pre .2) room (omega (arith, b .pre .0 .sound .picked, b .pre .0 .sound .small, b .pre .4))
-          (c .before .if1 .taken) (omega arith),
+          p-full (b .args .job .now) (b .args .p) (b .pre .0) (withRows s (b .args .rows .now)) (b .pre .1) (b .pre .3) (b .pre .2) room (chosen-room (b .pre .0 .sound) (b .pre .4))
+          (c .before .if1 .taken) (none-left (c .if2 .left)),
       tt,
     )
 
 read-z-requires : tie.Need-read-z-requires
-read-z-requires c κs = search needs
+read-z-requires c κs = (c .before .before .before .before .before .before .before .pre .0, c .before .before .before .before .before .before .before .pre .2)
 
 returns-3 : tie.Need-returns-3
 returns-3 c =
     let b = c .before .before .before .before .before .before .before .before in (
       λ s room.
           c .read-z .ensures .0 (withRows s (b .args .rows .now))
-          ∙ at-z-none (b .args .job .now) (b .args .p) (b .pre .0) (withRows s (b .args .rows .now)) (b .pre .1) (b .pre .3) (b .pre .2) room (omega (arith, b .pre .0 .sound .picked, b .pre .0 .sound .small, b .pre .4))
+          ∙ at-z-none (b .args .job .now) (b .args .p) (b .pre .0) (withRows s (b .args .rows .now)) (b .pre .1) (b .pre .3) (b .pre .2) room (chosen-room (b .pre .0 .sound) (b .pre .4))
           (c .before .before .if3 .taken) (omega (arith, c .before .if4 .taken)),
       c .read-z .ensures .1,
     )
 
 read-z-requires-2 : tie.Need-read-z-requires-2
-read-z-requires-2 c κs = search needs
+read-z-requires-2 c κs = (c .before .before .before .before .before .before .before .before .pre .0, c .before .before .before .before .before .before .before .before .pre .2)
 
 returns-4 : tie.Need-returns-4
 returns-4 c =
     let b = c .before .before .before .before .before .before .before .before .before in (
       λ s room.
           c .read-z2 .ensures .0 (withRows s (b .args .rows .now))
-          ∙ at-z-all (b .args .job .now) (b .args .p) (b .pre .0) (withRows s (b .args .rows .now)) (b .pre .1) (b .pre .3) (b .pre .2) room (omega (arith, b .pre .0 .sound .picked, b .pre .0 .sound .small, b .pre .4))
+          ∙ at-z-all (b .args .job .now) (b .args .p) (b .pre .0) (withRows s (b .args .rows .now)) (b .pre .1) (b .pre .3) (b .pre .2) room (chosen-room (b .pre .0 .sound) (b .pre .4))
           (c .before .before .before .if3 .taken) (c .before .before .if4 .left) (omega (arith, b .pre .0 .sound .picked, c .before .if5 .taken)),
       c .read-z2 .ensures .1,
     )
@@ -70,7 +69,7 @@ unfolding Onward
 returns-5 c =
     let b = c .before .before .before .before .before .before .before .before in (
       λ s room.
-          z-some (b .args .job .now) (b .args .p) (b .pre .0) (withRows s (b .args .rows .now)) (b .pre .1) (b .pre .3) (b .pre .2) room (omega (arith, b .pre .0 .sound .picked, b .pre .0 .sound .small, b .pre .4))
+          z-some (b .args .job .now) (b .args .p) (b .pre .0) (withRows s (b .args .rows .now)) (b .pre .1) (b .pre .3) (b .pre .2) room (chosen-room (b .pre .0 .sound) (b .pre .4))
           (c .before .before .if3 .taken) (c .before .if4 .left) (λ e. c .if5 .left (omega arith)),
       tt,
     )
@@ -80,7 +79,7 @@ unfolding Onward
 returns-6 c =
     let b = c .before .before .before .before .before .before in (
       λ s room.
-          after-else (b .args .job .now) (b .args .p) (b .pre .0) (withRows s (b .args .rows .now)) (b .pre .1) (b .pre .3) (b .pre .2) room (omega (arith, b .pre .0 .sound .picked, b .pre .0 .sound .small, b .pre .4))
+          after-else (b .args .job .now) (b .args .p) (b .pre .0) (withRows s (b .args .rows .now)) (b .pre .1) (b .pre .3) (b .pre .2) room (chosen-room (b .pre .0 .sound) (b .pre .4))
           (c .before .if1 .left) (c .if3 .left),
       tt,
     )

@@ -1,15 +1,13 @@
 -- `read_in_row` meets its contract.
 use mathlib.Core.Path.{_∙_}
-use native.Mathlib.Omega.{arith}
 use Rattle.inner_commands.specs.Progress.{Onward}
 use Rattle.inner_commands.specs.Stores.{storesOf}
-use Rattle.inner_standing.proofs.Placing.{at-e, at-b, inside-else}
-use borrow.Author.Needs.{needs}
+use Rattle.inner_standing.proofs.Placing.{at-e, at-b, inside-else, entries-room}
 use Rattle.inner_standing.proofs.read_in_row.Statement.{statement}
 use Rattle.inner_standing.proofs.read_in_row.Tie as tie
 
 shared-slice-read-byte : tie.Need-shared-slice-read-byte
-shared-slice-read-byte c = search needs
+shared-slice-read-byte c = c .before .before .before .before .before .before .pre .0 .byte-left
 
 read-e-requires : tie.Need-read-e-requires
 read-e-requires c κs =
@@ -18,10 +16,10 @@ read-e-requires c κs =
     (b .pre .0, b .pre .0 .sound .row-left (b .pre .1), z .columns-room, z .values-room)
 
 same-length : tie.Need-same-length
-same-length c = search needs
+same-length c = c .before .before .before .before .read-e .kept .1 .1 .0
 
 same-length-2 : tie.Need-same-length-2
-same-length-2 c = search needs
+same-length-2 c = c .before .before .before .before .read-e .kept .1 .1 .1 .0
 
 returns : tie.Need-returns
 returns c =
@@ -38,17 +36,17 @@ read-b-requires c κs =
     (b .pre .0, b .pre .0 .sound .row-left (b .pre .1), z .starts-room, z .right-room)
 
 same-length-3 : tie.Need-same-length-3
-same-length-3 c = search needs
+same-length-3 c = c .before .before .before .before .read-b .kept .1 .1 .0
 
 same-length-4 : tie.Need-same-length-4
-same-length-4 c = search needs
+same-length-4 c = c .before .before .before .before .read-b .kept .1 .1 .1 .0
 
 returns-2 : tie.Need-returns-2
 returns-2 c =
     let b = c .before .before .before .before .before .before .before .before .before .before .before .before .before .before .before in
     let s = storesOf (b .args .starts .now) (b .args .columns .now) (b .args .values .now) (b .args .right .now) in (
       λ rows.
-          c .before .before .before .before .read-b .ensures .0 (s rows) (omega (arith, b .pre .2 .1 .columns-room, b .pre .0 .sound .bytes-used, b .pre .0 .byte-left, b .pre .0 .short))
+          c .before .before .before .before .read-b .ensures .0 (s rows) (entries-room (b .pre .0) (b .pre .2 .1 .columns-room))
           ∙ at-b (b .args .job .now) (b .args .p) (b .pre .0) (s rows) (b .pre .1) (c .before .before .before .before .before .before .before .before .if1 .left) (c .before .before .before .before .before .before .before .if2 .taken),
       c .before .before .before .before .read-b .ensures .1,
     )

@@ -1,11 +1,16 @@
 -- `read_next` meets its contract.
-use native.Mathlib.Omega.{arith}
-use Rattle.inner_commands.specs.Progress.{Onward}
+use Prim.Native.Nat.{_<_}
+use native.Mathlib.Nat.{le-antisymm, pos-of-ne-zero}
+use lib.ListN.{length}
+use Rattle.inner_commands.specs.Progress.{Within, Onward}
 use Rattle.inner_commands.specs.Stores.{storesOf}
-use Rattle.inner_standing.proofs.Placing.{at-end}
-use borrow.Author.Needs.{needs}
+use Rattle.inner_standing.proofs.Placing.{at-end, closed-room}
 use Rattle.inner_standing.proofs.read_next.Statement.{statement}
 use Rattle.inner_standing.proofs.read_next.Tie as tie
+
+-- a byte is left
+within : (s : tie.Start) → s .args .p .at < length (s .args .job .now) → Within (length (s .args .job .now)) (s .args .p)
+within s left = record { sound = s .pre .0; byte-left = left; short = s .pre .1 }
 
 returns : tie.Need-returns
 unfolding Onward
@@ -14,7 +19,7 @@ returns c =
     (at-end (b .args .job .now) (storesOf (b .args .starts .now) (b .args .columns .now) (b .args .values .now) (b .args .right .now) (b .args .rows .now)) (b .args .p) (c .if1 .taken), tt)
 
 read-first-requires : tie.Need-read-first-requires
-read-first-requires c κs = search needs
+read-first-requires c κs = (within (c .before .before .before .before .before .before .before .before) (c .before .if1 .left), c .if2 .taken)
 
 returns-2 : tie.Need-returns-2
 returns-2 c =
@@ -24,19 +29,19 @@ returns-2 c =
     )
 
 read-in-row-requires : tie.Need-read-in-row-requires
-read-in-row-requires c κs = search needs
+read-in-row-requires c κs = (within (c .before .before .before .before .before .before .before .before .before .before .before .before .before) (c .before .before .before .before .before .before .if1 .left), c .before .before .before .before .if3 .taken, (c .before .before .before .before .before .before .before .before .before .before .before .before .before .args .rows .now, c .before .before .before .before .before .before .before .before .before .before .before .before .before .pre .2))
 
 same-length : tie.Need-same-length
-same-length c = search needs
+same-length c = c .before .before .before .before .before .before .before .before .read-in-row .kept .1 .1 .0
 
 same-length-2 : tie.Need-same-length-2
-same-length-2 c = search needs
+same-length-2 c = c .before .before .before .before .before .before .before .before .read-in-row .kept .1 .1 .1 .0
 
 same-length-3 : tie.Need-same-length-3
-same-length-3 c = search needs
+same-length-3 c = c .before .before .before .before .before .before .before .before .read-in-row .kept .1 .1 .1 .1 .0
 
 same-length-4 : tie.Need-same-length-4
-same-length-4 c = search needs
+same-length-4 c = c .before .before .before .before .before .before .before .before .read-in-row .kept .1 .1 .1 .1 .1 .0
 
 returns-3 : tie.Need-returns-3
 returns-3 c =
@@ -44,27 +49,27 @@ returns-3 c =
     (c .before .before .before .before .before .before .before .before .read-in-row .ensures .0 (b .args .rows .now), c .before .before .before .before .before .before .before .before .read-in-row .ensures .1)
 
 read-between-rows-requires : tie.Need-read-between-rows-requires
-read-between-rows-requires c κs = search needs
+read-between-rows-requires c κs = (within (c .before .before .before .before .before .before .before .before .before .before) (c .before .before .before .if1 .left), c .before .if3 .left, c .if4 .taken)
 
 returns-4 : tie.Need-returns-4
 returns-4 c =
     let b = c .before .before .before .before .before .before .before .before .before .before .before in (
       c .read-between-rows .ensures .0 (storesOf (b .args .starts .now) (b .args .columns .now) (b .args .values .now) (b .args .right .now) (b .args .rows .now))
-          (omega (arith, b .pre .0 .rows-left, b .pre .0 .small, b .pre .2 .right-room)),
+          (closed-room (b .pre .0) (b .pre .2 .right-room)),
       c .read-between-rows .ensures .1,
     )
 
 read-after-rows-requires : tie.Need-read-after-rows-requires
-read-after-rows-requires c κs = search needs
+read-after-rows-requires c κs = (within (c .before .before .before .before .before .before .before .before .before .before .before) (c .before .before .before .before .if1 .left), c .before .before .if3 .left, le-antisymm (c .before .before .before .before .before .before .before .before .before .before .before .pre .0 .rows-left) (c .before .if4 .left), pos-of-ne-zero (c .before .before .before .if2 .left), c .before .before .before .before .before .before .before .before .before .before .before .pre .2 .rows-room)
 
 same-length-5 : tie.Need-same-length-5
-same-length-5 c = search needs
+same-length-5 c = c .before .before .read-after-rows .kept .1 .1 .0
 
 returns-5 : tie.Need-returns-5
 returns-5 c =
     let b = c .before .before .before .before .before .before .before .before .before .before .before .before .before .before in (
       c .before .before .read-after-rows .ensures .0 (storesOf (b .args .starts .now) (b .args .columns .now) (b .args .values .now) (b .args .right .now) (b .args .rows .now))
-          (omega (arith, b .pre .0 .rows-left, b .pre .0 .small, b .pre .2 .right-room)),
+          (closed-room (b .pre .0) (b .pre .2 .right-room)),
       c .before .before .read-after-rows .ensures .1,
     )
 

@@ -1,21 +1,23 @@
 -- `added_own` meets its contract: the list of the step before is read, and the row is held against its last member.
+use native.Mathlib.Nat.{pos-of-ne-zero}
 use native.Mathlib.Omega.{arith}
+use borrow.Author.Count.{falls-down}
 use borrow.Author.Needs.{needs}
 use Rattle.inner_appending.specs.declared.appended.Added.the-variants.{Behind}
-use Rattle.inner_appending.proofs.Joining.{last-read, last-ready, own-itself, own-first, own-behind, own-brings, added-as}
+use Rattle.inner_appending.proofs.Joining.{last-read, last-ready, last-inside, own-itself, own-first, own-behind, own-brings, added-as}
 use Rattle.inner_appending.proofs.appended.added_own.Statement.{statement}
 use Rattle.inner_appending.proofs.appended.added_own.Tie as tie
 
 last-list-requires : tie.Need-last-list-requires
 last-list-requires c κs =
     let pre = c .before .before .before .pre in
-    last-ready (pre .1) (last-read (pre .1) (pre .2)) (omega arith)
+    last-ready (pre .1) (last-read (pre .1) (pre .2)) (c .before .before .before .good .1 .1 .1 .0 .0)
 
 enum-known-start : tie.Need-enum-known-start
-enum-known-start c = search needs
+enum-known-start c = c .match .keys1
 
 enum-told : tie.Need-enum-told
-enum-told c = search needs
+enum-told c = c .match .keys2
 
 returns : tie.Need-returns
 returns c = λ p j contained end-is. tt
@@ -24,10 +26,10 @@ list-at-requires : tie.Need-list-at-requires
 list-at-requires c κs =
     let pre = c .before .before .before .before .before .before .before .pre in
     let last = rw (c .before .start .given .1) at (c .before .before .before .last-list .ensures) in
-    omega (arith, last, last-read (pre .1) (pre .2) .inside)
+    last-inside (last-read (pre .1) (pre .2) .inside) (last .0) (last .1)
 
 after-first-requires : tie.Need-after-first-requires
-after-first-requires c κs = search needs
+after-first-requires c κs = tt
 
 returns-2 : tie.Need-returns-2
 returns-2 c = λ p j contained end-is.
@@ -42,13 +44,13 @@ returns-3 c = λ p j contained end-is.
     (own-first _ _ _ _ (c .before .before .after-first .ensures) (c .before .if1 .left) (c .if2 .taken))
 
 sub-if3 : tie.Need-sub-if3
-sub-if3 c = search needs
+sub-if3 c = pos-of-ne-zero (c .if2 .left)
 
 mul-if3 : tie.Need-mul-if3
 mul-if3 c = search needs
 
 shared-slice-read-if3 : tie.Need-shared-slice-read-if3
-shared-slice-read-if3 c = search needs
+shared-slice-read-if3 c = falls-down _ (pos-of-ne-zero (c .before .if2 .left))
 
 returns-4 : tie.Need-returns-4
 returns-4 c = λ p j contained end-is.

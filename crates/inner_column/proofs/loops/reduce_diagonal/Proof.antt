@@ -5,7 +5,7 @@ use mathlib.Core.Path.{_≡_, refl, _∙_}
 use Prim.Native.Nat.{ℕ, _≤_, _<_, _-_}
 use lib.Ieee.{Float, ofBits}
 use lib.ListN.{length, getD, take, length-set}
-use borrow.Author.Needs.{needs}
+use Rattle.lists.proofs.Small.{Placed, placed, least, less, next-le, still-below, index-fits, next-fits}
 use Rattle.lists.specs.Sets.{upto}
 use Rattle.inner_slots.proofs.Flags.{flag-set, flag-left}
 use Rattle.foundation.specs.Reference.{reduced}
@@ -22,85 +22,71 @@ Inv-loop d₀ rows factors columns values flag bad₀ s₀ t₀ d bad s t = (t �
 abbrev μ-loop : tie.MeasureT-loop
 μ-loop d₀ rows factors columns values flag bad₀ s₀ t₀ d bad s t = length rows - t
 
+-- the row at hand has its place on the diagonal, and its own column in the pivot row
+abbrev entry : tie.In-loop Inv-loop μ-loop → tie.Start Inv-loop μ-loop
+entry c = c .before .before .before .before .before .before .before
+
+row : (c : tie.In-loop Inv-loop μ-loop) → Placed (length (c .before .loop .d)) (getD (entry c .args .rows .now) (c .before .loop .t) 0)
+row c =
+    let s = entry c in
+    placed (row-low _ _ _ (s .pre .2) (s .pre .4) (c .loop-test .taken)) (c .before .loop .inv .2) (s .good .0 .1)
+
+column : (c : tie.After-first-above Inv-loop μ-loop)
+    → (c .first-above .result < length (entry (c .before .before .before) .args .columns .now)) × (getD (entry (c .before .before .before) .args .columns .now) (c .first-above .result) 0 ≡ getD (entry (c .before .before .before) .args .rows .now) (c .before .before .before .before .loop .t) 0)
+column c =
+    let s = c .before .before .before .before .before .before .before .before .before .before in
+    own-column (s .args .columns .now) (getD (s .args .rows .now) (c .before .before .before .before .loop .t) 0) _ (s .pre .3) (row (c .before .before .before) .low) (s .pre .5 _ (member-at _ _ (c .before .before .before .loop-test .taken))) (c .first-above .ensures)
+
 loop-holds : tie.Need-loop-holds Inv-loop μ-loop
-loop-holds c = (search needs, search needs, refl, passed-start _ _, λ f m u e v w. rewriting-start _ _ _ _ _ e)
+loop-holds c = (least _, least _, refl, passed-start _ _, λ f m u e v w. rewriting-start _ _ _ _ _ e)
 
 mul-i : tie.Need-mul-i Inv-loop μ-loop
-mul-i c = search needs
+mul-i c = index-fits (c .loop-test .taken) (c .before .before .before .before .before .before .before .good .1 .0 .1)
 
 shared-slice-read-i : tie.Need-shared-slice-read-i Inv-loop μ-loop
-shared-slice-read-i c = search needs
+shared-slice-read-i c = c .before .loop-test .taken
 
 mul-m : tie.Need-mul-m Inv-loop μ-loop
-mul-m c = search needs
+mul-m c = index-fits (c .before .loop-test .taken) (c .before .before .before .before .before .before .before .before .good .1 .0 .1)
 
 shared-slice-read-m : tie.Need-shared-slice-read-m Inv-loop μ-loop
-shared-slice-read-m c = search needs
+shared-slice-read-m c = still-below (c .before .before .loop-test .taken) (c .before .before .before .before .before .before .before .before .before .pre .0)
 
 sub-first-above : tie.Need-sub-first-above Inv-loop μ-loop
-sub-first-above c =
-    let b = c .before .before .before in
-    let g = b .before .before .before .before .before .before in
-    let f = row-low _ (g .args .rows .now) (b .loop .t) (g .pre .2) (g .pre .4) (search needs) in search needs
+sub-first-above c = row (c .before .before) .low
 
 first-above-requires : tie.Need-first-above-requires Inv-loop μ-loop
-first-above-requires c κs = let b = c .before .before .before in (b .loop .inv .1, passed-at _ _ _ _ (b .loop .inv .3) (search needs))
+first-above-requires c κs = (c .before .before .before .loop .inv .1, passed-at _ _ _ _ (c .before .before .before .loop .inv .3) (c .before .before .loop-test .taken))
 
 mul-u : tie.Need-mul-u Inv-loop μ-loop
-mul-u c =
-    let b = c .before .before .before .before in
-    let g = b .before .before .before .before .before .before in
-    let l : b .loop .t < length (g .args .rows .now) = search needs in
-    let f = own-column (g .args .columns .now) (getD (g .args .rows .now) (b .loop .t) 0) _ (g .pre .3) (row-low _ (g .args .rows .now) (b .loop .t) (g .pre .2) (g .pre .4) l .0) (g .pre .5 _ (member-at (b .loop .t) (g .args .rows .now) l)) (c .first-above .ensures) in search needs
+mul-u c = index-fits (column c .0) (c .before .before .before .before .before .before .before .before .before .before .good .1 .1 .1 .0 .1)
 
 shared-slice-read-u : tie.Need-shared-slice-read-u Inv-loop μ-loop
-shared-slice-read-u c =
-    let b = c .before .before .before .before .before in
-    let g = b .before .before .before .before .before .before in
-    let l : b .loop .t < length (g .args .rows .now) = search needs in
-    let f = own-column (g .args .columns .now) (getD (g .args .rows .now) (b .loop .t) 0) _ (g .pre .3) (row-low _ (g .args .rows .now) (b .loop .t) (g .pre .2) (g .pre .4) l .0) (g .pre .5 _ (member-at (b .loop .t) (g .args .rows .now) l)) (c .before .first-above .ensures) in search needs
+shared-slice-read-u c = still-below (column (c .before) .0) (c .before .before .before .before .before .before .before .before .before .before .before .pre .1)
 
 sub-old : tie.Need-sub-old Inv-loop μ-loop
-sub-old c =
-    let b = c .before .before .before .before .before in
-    let g = b .before .before .before .before .before .before in
-    let f = row-low _ (g .args .rows .now) (b .loop .t) (g .pre .2) (g .pre .4) (search needs) in search needs
+sub-old c = row (c .before .before .before .before) .low
 
 mul-old : tie.Need-mul-old Inv-loop μ-loop
-mul-old c =
-    let b = c .before .before .before .before .before in
-    let g = b .before .before .before .before .before .before in
-    let f = row-low _ (g .args .rows .now) (b .loop .t) (g .pre .2) (g .pre .4) (search needs) in search needs
+mul-old c = row (c .before .before .before .before) .fits
 
 slice-read-old : tie.Need-slice-read-old Inv-loop μ-loop
-slice-read-old c =
-    let b = c .before .before .before .before .before .before in
-    let g = b .before .before .before .before .before .before in
-    let f = row-low _ (g .args .rows .now) (b .loop .t) (g .pre .2) (g .pre .4) (search needs) in search needs
+slice-read-old c = row (c .before .before .before .before .before) .inside
 
 sub-d : tie.Need-sub-d Inv-loop μ-loop
-sub-d c =
-    let b = c .before .before .before .before .before .before .before .before in
-    let g = b .before .before .before .before .before .before in
-    let f = row-low _ (g .args .rows .now) (b .loop .t) (g .pre .2) (g .pre .4) (search needs) in search needs
+sub-d c = row (c .before .before .before .before .before .before .before) .low
 
 mul-d : tie.Need-mul-d Inv-loop μ-loop
-mul-d c =
-    let b = c .before .before .before .before .before .before .before .before in
-    let g = b .before .before .before .before .before .before in
-    let f = row-low _ (g .args .rows .now) (b .loop .t) (g .pre .2) (g .pre .4) (search needs) in search needs
+mul-d c = row (c .before .before .before .before .before .before .before) .fits
 
 slice-write-d : tie.Need-slice-write-d Inv-loop μ-loop
-slice-write-d c =
-    let b = c .before .before .before .before .before .before .before .before in
-    let g = b .before .before .before .before .before .before in
-    let f = row-low _ (g .args .rows .now) (b .loop .t) (g .pre .2) (g .pre .4) (search needs) in search needs
+slice-write-d c = row (c .before .before .before .before .before .before .before) .inside
 
 add-t : tie.Need-add-t Inv-loop μ-loop
-add-t c = search needs
+add-t c = next-fits (c .before .before .before .before .before .before .before .before .loop-test .taken) (c .before .before .before .before .before .before .before .before .before .before .before .before .before .before .before .good .1 .0 .1)
 
 loop-less : tie.Need-loop-less Inv-loop μ-loop
-loop-less c = search needs
+loop-less c = less _ _ (c .before .before .before .before .before .before .before .before .loop-test .taken)
 
 loop-again : tie.Need-loop-again Inv-loop μ-loop
 unfolding ofBits
@@ -108,10 +94,10 @@ loop-again c =
     let b = c .before .before .before .before .before .before .before .before .before in
     let g = b .before .before .before .before .before .before in
     let rows = g .args .rows .now in
-    let l : b .loop .t < length rows = search needs in
+    let l = c .before .before .before .before .before .before .before .before .loop-test .taken in
     let at = c .before .before .before .before .before .first-above .ensures in
-    let there = own-column (g .args .columns .now) (getD rows (b .loop .t) 0) _ (g .pre .3) (row-low _ rows (b .loop .t) (g .pre .2) (g .pre .4) l .0) (g .pre .5 _ (member-at (b .loop .t) rows l)) at in (
-      search needs,
+    let there = column (c .before .before .before .before .before) in (
+      next-le _ _ l,
       at .0,
       simp length-set (b .loop .inv .2),
       passed-next _ _ rows _ (g .pre .2) l (at .1),
@@ -126,10 +112,10 @@ loop-again c =
     )
 
 same-length : tie.Need-same-length Inv-loop μ-loop
-same-length c = search needs
+same-length c = c .before .loop .inv .2
 
 returns : tie.Need-returns Inv-loop μ-loop
-returns c = let b = c .before in λ f m u e v w. rewriting-end _ _ (b .before .before .before .before .before .before .args .rows .now) _ _ _ _ (b .loop .t) (b .loop .inv .4 f m u e v w) (search needs)
+returns c = let b = c .before in λ f m u e v w. rewriting-end _ _ (b .before .before .before .before .before .before .args .rows .now) _ _ _ _ (b .loop .t) (b .loop .inv .4 f m u e v w) (c .loop-test .left)
 
 pub reduce-diagonal-spec : {M : Type 1} → statement M
 reduce-diagonal-spec =

@@ -2,10 +2,10 @@
 use mathlib.Core.List.{List, map}
 use mathlib.Core.Logic.{⊎-elim}
 use mathlib.Core.Path.{_≡_, refl, ap, _∙_}
-use Prim.Native.Nat.{ℕ, _≤_, _<_, _-_}
+use Prim.Native.Nat.{ℕ, _≤_, _-_}
 use lib.Ieee.{Float, nan, ofBits}
 use lib.ListN.{length, getD, take, length-set}
-use borrow.Author.Needs.{needs}
+use Rattle.lists.proofs.Small.{Placed, placed, least, less, next-le, still-below, index-fits, next-fits}
 use Rattle.lists.specs.Sets.{upto}
 use Rattle.inner_slots.proofs.Flags.{flag-set, flag-left}
 use Rattle.inner_column.specs.Column.{followed, Rewritten}
@@ -20,71 +20,65 @@ Inv-loop x₀ rows factors k flag top bad₀ t₀ x bad t = (t ≤ length rows) 
 abbrev μ-loop : tie.MeasureT-loop
 μ-loop x₀ rows factors k flag top bad₀ t₀ x bad t = length rows - t
 
+-- the place of the pivot row, and of the row at hand
+top : (s : tie.Start Inv-loop μ-loop) → Placed (length (s .args .x .now)) (s .args .k)
+top s = placed (s .pre .1, s .pre .2) refl (s .good .0 .1)
+
+abbrev entry : tie.In-loop Inv-loop μ-loop → tie.Start Inv-loop μ-loop
+entry c = c .before .before .before
+
+row : (c : tie.In-loop Inv-loop μ-loop) → Placed (length (c .before .loop .x)) (getD (entry c .args .rows .now) (c .before .loop .t) 0)
+row c =
+    let s = entry c in
+    placed (row-low _ _ _ (s .pre .3) (s .pre .4) (c .loop-test .taken)) (c .before .loop .inv .1) (s .good .0 .1)
+
 sub-top : tie.Need-sub-top Inv-loop μ-loop
-sub-top c = search needs
+sub-top c = c .pre .1
 
 mul-top : tie.Need-mul-top Inv-loop μ-loop
-mul-top c = search needs
+mul-top c = top c .fits
 
 slice-read-top : tie.Need-slice-read-top Inv-loop μ-loop
-slice-read-top c = search needs
+slice-read-top c = top (c .before) .inside
 
 loop-holds : tie.Need-loop-holds Inv-loop μ-loop
-loop-holds c = (search needs, refl, refl, λ f m e v. rewriting-start _ _ _ _ _ e)
+loop-holds c = (least _, refl, refl, λ f m e v. rewriting-start _ _ _ _ _ e)
 
 mul-i : tie.Need-mul-i Inv-loop μ-loop
-mul-i c = search needs
+mul-i c = index-fits (c .loop-test .taken) (c .before .before .before .good .1 .0 .1)
 
 shared-slice-read-i : tie.Need-shared-slice-read-i Inv-loop μ-loop
-shared-slice-read-i c = search needs
+shared-slice-read-i c = c .before .loop-test .taken
 
 mul-m : tie.Need-mul-m Inv-loop μ-loop
-mul-m c = search needs
+mul-m c = index-fits (c .before .loop-test .taken) (c .before .before .before .before .good .1 .0 .1)
 
 shared-slice-read-m : tie.Need-shared-slice-read-m Inv-loop μ-loop
-shared-slice-read-m c = search needs
+shared-slice-read-m c = still-below (c .before .before .loop-test .taken) (c .before .before .before .before .before .pre .0)
 
 sub-old : tie.Need-sub-old Inv-loop μ-loop
-sub-old c =
-    let b = c .before .before .before in
-    let g = b .before .before in
-    let f = row-low _ (g .args .rows .now) (b .loop .t) (g .pre .3) (g .pre .4) (search needs) in search needs
+sub-old c = row (c .before .before) .low
 
 mul-old : tie.Need-mul-old Inv-loop μ-loop
-mul-old c =
-    let b = c .before .before .before in
-    let g = b .before .before in
-    let f = row-low _ (g .args .rows .now) (b .loop .t) (g .pre .3) (g .pre .4) (search needs) in search needs
+mul-old c = row (c .before .before) .fits
 
 slice-read-old : tie.Need-slice-read-old Inv-loop μ-loop
-slice-read-old c =
-    let b = c .before .before .before .before in
-    let g = b .before .before in
-    let f = row-low _ (g .args .rows .now) (b .loop .t) (g .pre .3) (g .pre .4) (search needs) in search needs
+slice-read-old c = row (c .before .before .before) .inside
 
 sub-x : tie.Need-sub-x Inv-loop μ-loop
-sub-x c =
-    let b = c .before .before .before .before .before in
-    let g = b .before .before in
-    let f = row-low _ (g .args .rows .now) (b .loop .t) (g .pre .3) (g .pre .4) (search needs) in search needs
+sub-x c = row (c .before .before .before .before) .low
 
 mul-x : tie.Need-mul-x Inv-loop μ-loop
-mul-x c =
-    let b = c .before .before .before .before .before in
-    let g = b .before .before in
-    let f = row-low _ (g .args .rows .now) (b .loop .t) (g .pre .3) (g .pre .4) (search needs) in search needs
+mul-x c = row (c .before .before .before .before) .fits
 
 slice-write-x : tie.Need-slice-write-x Inv-loop μ-loop
-slice-write-x c =
-    let b = c .before .before .before .before .before in
-    let g = b .before .before in
-    let f = row-low _ (g .args .rows .now) (b .loop .t) (g .pre .3) (g .pre .4) (search needs) in search needs
+slice-write-x c = row (c .before .before .before .before) .inside
 
 add-t : tie.Need-add-t Inv-loop μ-loop
-add-t c = search needs
+add-t c = next-fits (c .before .before .before .before .before .loop-test .taken) (c .before .before .before .before .before .before .before .before .good .1 .0 .1)
 
 loop-less : tie.Need-loop-less Inv-loop μ-loop
-loop-less c = search needs
+loop-less c = less _ _ (c .before .before .before .before .before .loop-test .taken)
 
 loop-again : tie.Need-loop-again Inv-loop μ-loop
 unfolding ofBits
@@ -92,8 +86,8 @@ loop-again c =
     let b = c .before .before .before .before .before .before in
     let g = b .before .before in
     let rows = g .args .rows .now in
-    let l : b .loop .t < length rows = search needs in (
-      search needs,
+    let l = c .before .before .before .before .before .loop-test .taken in (
+      next-le _ _ l,
       simp length-set (b .loop .inv .1),
       b .loop .inv .2,
       λ f m e v.
@@ -106,10 +100,10 @@ loop-again c =
     )
 
 same-length : tie.Need-same-length Inv-loop μ-loop
-same-length c = search needs
+same-length c = c .before .loop .inv .1
 
 returns : tie.Need-returns Inv-loop μ-loop
-returns c = let b = c .before in λ f m e v. rewriting-end _ _ (b .before .before .args .rows .now) _ _ _ _ (b .loop .t) (b .loop .inv .3 f m e v) (search needs)
+returns c = let b = c .before in λ f m e v. rewriting-end _ _ (b .before .before .args .rows .now) _ _ _ _ (b .loop .t) (b .loop .inv .3 f m e v) (c .loop-test .left)
 
 pub reduce-right-spec : {M : Type 1} → statement M
 reduce-right-spec =

@@ -1,51 +1,56 @@
 -- `verify_rest` meets its contract: the start, the end of the slots and the rest of the list stand as they should, or one does not.
 use mathlib.Core.Bool.{false≢true}
 use mathlib.Core.Path.{refl, sym, _∙_}
-use borrow.Author.Needs.{needs}
+use native.Mathlib.Nat.{le-refl}
+use borrow.Author.Needs.{needs, scaled-fits, fits-under}
 use borrow.Author.Tests.{not-true, not-false}
+use Rattle.lists.proofs.Small.{before-fits, before-below, before-size}
 use Rattle.inner_sharing.proofs.Comparing.{same-equal, equal-same}
+use Rattle.inner_appending.proofs.Rest.{rest-small}
+use Rattle.inner_comparing.proofs.Verifying.{sum-fits}
 use Rattle.inner_comparing.proofs.kept_lists.verify_rest.Statement.{statement}
 use Rattle.inner_comparing.proofs.kept_lists.verify_rest.Tie as tie
 
 sub-if1 : tie.Need-sub-if1
-sub-if1 c = search needs
+sub-if1 c = c .before .before .before .before .pre .step
 
 mul-if1 : tie.Need-mul-if1
-mul-if1 c = search needs
+mul-if1 c = scaled-fits _ _ _ (before-size (c .before .before .before .before .pre .step) (c .before .before .before .before .pre .starts-size) refl) (c .before .before .before .before .good .1 .1 .1 .1 .0 .1)
 
 shared-slice-read-if1 : tie.Need-shared-slice-read-if1
-shared-slice-read-if1 c = search needs
+shared-slice-read-if1 c = before-size (c .before .before .before .before .before .pre .step) (c .before .before .before .before .before .pre .starts-size) refl
 
 sub-if1-2 : tie.Need-sub-if1-2
-sub-if1-2 c = search needs
+sub-if1-2 c = c .before .before .before .before .before .pre .shared-end
 
 returns : tie.Need-returns
-returns c = search needs
+returns c = λ start slots rest. c .if1 .taken start
 
 mul-if2 : tie.Need-mul-if2
-mul-if2 c = search needs
+mul-if2 c = scaled-fits _ _ _ (c .before .before .before .before .before .before .pre .slots-size) (c .before .before .before .before .before .before .good .1 .1 .1 .1 .1 .0 .1)
 
 shared-slice-read-if2 : tie.Need-shared-slice-read-if2
-shared-slice-read-if2 c = search needs
+shared-slice-read-if2 c = c .before .before .before .before .before .before .before .pre .slots-size
 
 sub-if2 : tie.Need-sub-if2
-sub-if2 c = search needs
+sub-if2 c = c .before .before .before .before .before .before .before .pre .step
 
 mul-if2-2 : tie.Need-mul-if2-2
-mul-if2-2 c = search needs
+mul-if2-2 c = before-fits (c .before .before .before .before .before .before .before .pre .slots-size) (c .before .before .before .before .before .before .before .good .1 .1 .1 .1 .1 .0 .1)
 
 shared-slice-read-if2-2 : tie.Need-shared-slice-read-if2-2
-shared-slice-read-if2-2 c = search needs
+shared-slice-read-if2-2 c = before-below (c .before .before .before .before .before .before .before .before .pre .slots-size)
 
 add-if2 : tie.Need-add-if2
-add-if2 c = search needs
+add-if2 c = rest-small _ _ (c .before .before .before .before .before .before .before .before .pre .small)
 
 add-if2-2 : tie.Need-add-if2-2
-add-if2-2 c = search needs
+add-if2-2 c = fits-under _ _ _ (c .before .before .before .before .before .before .before .before .pre .small) tt
 
 returns-2 : tie.Need-returns-2
-returns-2 c = search needs
+returns-2 c = λ start slots rest. c .if2 .taken slots
 
+-- by arithmetic, which serves either number: code that looks elsewhere is refused for what it finds there
 stands-at-requires : tie.Need-stands-at-requires
 stands-at-requires c κs = search needs
 
@@ -54,7 +59,7 @@ returns-3 c a b d =
     false≢true (sym (not-true _ (c .if3 .taken)) ∙ c .before .stands-at .ensures ∙ equal-same _ _ d)
 
 add-t10 : tie.Need-add-t10
-add-t10 c = search needs
+add-t10 c = sum-fits (c .before .before .before .before .before .before .before .before .before .before .before .pre .end-inside) (c .before .before .before .before .before .before .before .before .before .before .before .good .1 .1 .1 .0 .1) (le-refl _) (c .before .before .before .before .before .before .before .before .before .before .before .good .1 .1 .0 .1)
 
 returns-4 : tie.Need-returns-4
 returns-4 c =

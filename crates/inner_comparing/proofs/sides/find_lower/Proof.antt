@@ -1,6 +1,6 @@
 -- `find_lower` meets its contract: the list is that of the step before with the row behind it, unless that is the step itself.
+use native.Mathlib.Nat.{le-refl}
 use native.Mathlib.Omega.{arith}
-use borrow.Author.Needs.{needs}
 use borrow.Author.Tests.{not-false}
 use Rattle.inner_appending.proofs.Joining.{row-inside, joins, joins-not-sole, own-rest}
 use Rattle.inner_comparing.proofs.Short.{verifying-writable, verified}
@@ -21,10 +21,10 @@ added-own-requires c κs =
     (p, joins step chains (c .before .joins-last .ensures (not-false _ (c .if1 .left))), contained, end-is)
 
 enum-known-added : tie.Need-enum-known-added
-enum-known-added c = search needs
+enum-known-added c = c .match .keys1
 
 enum-told : tie.Need-enum-told
-enum-told c = search needs
+enum-told c = c .match .keys2
 
 returns-2 : tie.Need-returns-2
 returns-2 c = λ p step chains contained end-is. tt
@@ -40,18 +40,16 @@ sub-verify-rest : tie.Need-sub-verify-rest
 sub-verify-rest c =
     let (p, step, chains, inside, contained, end-is) = c .before .before .before .before .before .before .before .before .before .before .before .pre in
     let j = joins step chains (c .before .before .before .before .before .joins-last .ensures (not-false _ (c .before .before .before .before .if1 .left))) in
-    let few = own-rest _ (rw (c .before .added .given .1) at (c .before .before .before .added-own .ensures p j contained end-is)) .0 in
-    omega (arith, few)
+    own-rest _ (rw (c .before .added .given .1) at (c .before .before .before .added-own .ensures p j contained end-is)) .0
 
 part-verify-rest-start : tie.Need-part-verify-rest-start
 part-verify-rest-start c =
     let (p, step, chains, inside, contained, end-is) = c .before .before .before .before .before .before .before .before .before .before .before .before .pre in
     let j = joins step chains (c .before .before .before .before .before .before .joins-last .ensures (not-false _ (c .before .before .before .before .before .if1 .left))) in
-    let few = own-rest _ (rw (c .before .before .added .given .1) at (c .before .before .before .before .added-own .ensures p j contained end-is)) .0 in
-    omega (arith, few)
+    own-rest _ (rw (c .before .before .added .given .1) at (c .before .before .before .before .added-own .ensures p j contained end-is)) .0
 
 part-verify-rest-end : tie.Need-part-verify-rest-end
-part-verify-rest-end c = search needs
+part-verify-rest-end c = le-refl _
 
 verify-rest-requires : tie.Need-verify-rest-requires
 verify-rest-requires c κs =

@@ -1,8 +1,10 @@
 -- `find_upper` meets its contract: the list is that of the step before with the columns that the row adds behind it.
 use native.Mathlib.Omega.{arith}
-use borrow.Author.Needs.{needs}
+use borrow.Author.Needs.{scaled-fits}
 use borrow.Author.Tests.{not-false}
 use Rattle.foundation.specs.Pattern.{lent}
+use Rattle.lists.proofs.Small.{before-fits, before-below}
+use Rattle.inner_gathering.proofs.Gathering.{row-in-starts}
 use Rattle.inner_appending.specs.Joining.{JoinsLast}
 use Rattle.inner_appending.proofs.Joining.{row-inside, joins, joins-not-sole, row-of, columns-rest}
 use Rattle.inner_comparing.proofs.Short.{verifying-writable, verified}
@@ -15,7 +17,7 @@ joins-last-requires c κs =
     (row-inside (pre .0 .0) (pre .0 .1), pre .0 .2, pre .0 .0 .low)
 
 returns : tie.Need-returns
-returns c = search needs
+returns c = tt
 
 -- the function's entry
 abbrev start : tie.Else1 → tie.Start
@@ -31,43 +33,34 @@ added-columns-requires : tie.Need-added-columns-requires
 added-columns-requires c κs = (joined c, start c .pre .1)
 
 enum-known-added : tie.Need-enum-known-added
-enum-known-added c = search needs
+enum-known-added c = c .match .keys1
 
 enum-told : tie.Need-enum-told
-enum-told c = search needs
+enum-told c = c .match .keys2
 
 returns-2 : tie.Need-returns-2
-returns-2 c = search needs
+returns-2 c = tt
 
 sub-from : tie.Need-sub-from
-sub-from c =
-    let read = columns-rest (joined (c .before .before .before .before)) (rw (c .before .added .given .1) at (c .before .before .before .added-columns .ensures)) in
-    omega (arith, read)
+sub-from c = row-of (joined (c .before .before .before .before)) .low
 
 mul-from : tie.Need-mul-from
-mul-from c =
-    let j = joined (c .before .before .before .before) in
-    omega (arith, row-of j, j .step .ready .few, j .step .same-n)
+mul-from c = before-fits (row-in-starts (row-of (joined (c .before .before .before .before)))) (c .before .before .before .before .before .before .before .before .before .before .before .before .before .good .1 .1 .1 .1 .1 .1 .0 .1)
 
 shared-slice-read-from : tie.Need-shared-slice-read-from
-shared-slice-read-from c =
-    let read = columns-rest (joined (c .before .before .before .before .before)) (rw (c .before .before .added .given .1) at (c .before .before .before .before .added-columns .ensures)) in
-    omega (arith, read)
+shared-slice-read-from c = before-below (row-in-starts (row-of (joined (c .before .before .before .before .before))))
 
+-- by arithmetic here and below, whatever is added: code that adds another number is refused for the columns that it looks for
 add-from : tie.Need-add-from
 add-from c =
     let read = columns-rest (joined (c .before .before .before .before .before)) (rw (c .before .before .added .given .1) at (c .before .before .before .before .added-columns .ensures)) in
     omega (arith, read)
 
 mul-to : tie.Need-mul-to
-mul-to c =
-    let j = joined (c .before .before .before .before .before) in
-    omega (arith, row-of j, j .step .ready .few, j .step .same-n)
+mul-to c = scaled-fits _ _ _ (row-in-starts (row-of (joined (c .before .before .before .before .before)))) (c .before .before .before .before .before .before .before .before .before .before .before .before .before .before .good .1 .1 .1 .1 .1 .1 .0 .1)
 
 shared-slice-read-to : tie.Need-shared-slice-read-to
-shared-slice-read-to c =
-    let read = columns-rest (joined (c .before .before .before .before .before .before)) (rw (c .before .before .before .added .given .1) at (c .before .before .before .before .before .added-columns .ensures)) in
-    omega (arith, read)
+shared-slice-read-to c = row-in-starts (row-of (joined (c .before .before .before .before .before .before)))
 
 mul-verify-rest : tie.Need-mul-verify-rest
 mul-verify-rest c =
@@ -85,9 +78,7 @@ part-verify-rest-start c =
     omega (arith, read)
 
 part-verify-rest-end : tie.Need-part-verify-rest-end
-part-verify-rest-end c =
-    let read = columns-rest (joined (c .before .before .before .before .before .before)) (rw (c .before .before .before .added .given .1) at (c .before .before .before .before .before .added-columns .ensures)) in
-    omega (arith, read)
+part-verify-rest-end c = row-of (joined (c .before .before .before .before .before .before)) .inside
 
 verify-rest-requires : tie.Need-verify-rest-requires
 verify-rest-requires c κs =

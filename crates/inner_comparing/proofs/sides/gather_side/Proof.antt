@@ -1,30 +1,32 @@
 -- `gather_side` meets its contract: the kept list of step k is gathered in one of two stores, and looked for in the side's.
 use mathlib.Core.Path.{_∙_}
-use native.Mathlib.Omega.{arith}
-use borrow.Author.Needs.{needs}
+use Prim.Native.Nat.{zero-le}
+use Rattle.lists.proofs.Small.{still-inside}
 use Rattle.inner_comparing.proofs.Verifying.{verifying-spare, verifying-list}
 use Rattle.inner_comparing.proofs.sides.gather_side.Statement.{statement}
 use Rattle.inner_comparing.proofs.sides.gather_side.Tie as tie
 
 from-rows-requires : tie.Need-from-rows-requires
-from-rows-requires c κs = search needs
+from-rows-requires c κs =
+    let (step, chains) = c .before .before .before .before .before .before .before .before .before .before .before .pre .0 in
+    ((step .ready, step .low, step .high), (chains .rows, c .before .before .before .before .before .before .before .before .before .before .before .pre .1 .1 .1))
 
 from-steps-requires : tie.Need-from-steps-requires
-from-steps-requires c κs = search needs
+from-steps-requires c κs =
+    let (step, chains) = c .before .before .before .before .before .before .before .before .before .before .before .before .before .before .before .before .before .before .pre .0 in
+    (_, step .same-n, step .ready, step .low, step .high, chains .steps, c .before .before .before .before .before .before .before .before .before .before .before .before .before .before .before .before .before .before .pre .1 .0, c .before .before .before .before .before .before .from-rows .ensures)
 
 sub-verify-list : tie.Need-sub-verify-list
-sub-verify-list c = search needs
+sub-verify-list c = zero-le
 
 part-verify-list-start : tie.Need-part-verify-list-start
-part-verify-list-start c = search needs
+part-verify-list-start c = zero-le
 
 part-verify-list-end : tie.Need-part-verify-list-end
 part-verify-list-end c =
-    let a = c .before .before .before .before .before .before .before .before .before .before .before .before .before .before .before .before .before .before .before .before .before .before .before .before .before in
-    let (step, chains) = a .pre .0 in
-    let contained = a .pre .1 .0 in
-    let held = c .before .before .before .before .before .before .from-steps .ensures _ (step .same-n) (step .ready) (chains .steps) contained (c .before .before .before .before .before .before .before .before .before .before .before .before .before .from-rows .ensures) in
-    omega (arith, held .fits, held .list-size, held .spare-size)
+    let (step, chains) = c .before .before .before .before .before .before .before .before .before .before .before .before .before .before .before .before .before .before .before .before .before .before .before .before .before .pre .0 in
+    let held = c .before .before .before .before .before .before .from-steps .ensures _ (step .same-n) (step .ready) (chains .steps) (c .before .before .before .before .before .before .before .before .before .before .before .before .before .before .before .before .before .before .before .before .before .before .before .before .before .pre .1 .0) (c .before .before .before .before .before .before .before .before .before .before .before .before .before .from-rows .ensures) in
+    still-inside (held .fits) (held .spare-size)
 
 verify-list-requires : tie.Need-verify-list-requires
 verify-list-requires c κs =
@@ -51,18 +53,17 @@ returns c =
     c .verify-list .ensures _ _ (verifying-spare step contained end-is not-sole held (c .before .before .before .if1 .taken))
 
 sub-verify-list-2 : tie.Need-sub-verify-list-2
-sub-verify-list-2 c = search needs
+sub-verify-list-2 c = zero-le
 
 part-verify-list-start-2 : tie.Need-part-verify-list-start-2
-part-verify-list-start-2 c = search needs
+part-verify-list-start-2 c = zero-le
 
+-- by the sizes of both stores: code that lends the other is refused for the list that stands in it
 part-verify-list-end-2 : tie.Need-part-verify-list-end-2
 part-verify-list-end-2 c =
-    let a = c .before .before .before .before .before .before .before .before .before .before .before .before .before .before .before .before .before .before .before .before .before .before .before .before .before in
-    let (step, chains) = a .pre .0 in
-    let contained = a .pre .1 .0 in
-    let held = c .before .before .before .before .before .before .from-steps .ensures _ (step .same-n) (step .ready) (chains .steps) contained (c .before .before .before .before .before .before .before .before .before .before .before .before .before .from-rows .ensures) in
-    omega (arith, held .fits, held .list-size, held .spare-size)
+    let (step, chains) = c .before .before .before .before .before .before .before .before .before .before .before .before .before .before .before .before .before .before .before .before .before .before .before .before .before .pre .0 in
+    let held = c .before .before .before .before .before .before .from-steps .ensures _ (step .same-n) (step .ready) (chains .steps) (c .before .before .before .before .before .before .before .before .before .before .before .before .before .before .before .before .before .before .before .before .before .before .before .before .before .pre .1 .0) (c .before .before .before .before .before .before .before .before .before .before .before .before .before .from-rows .ensures) in
+    simp (held .list-size, held .spare-size) (held .fits)
 
 verify-list-requires-2 : tie.Need-verify-list-requires-2
 verify-list-requires-2 c κs =

@@ -1,6 +1,5 @@
 -- `verify_lower` meets its contract: the list of the sole step is shared, or the list of L is found the short way or the long one.
 use mathlib.Core.Path.{sym, _∙_}
-use borrow.Author.Needs.{needs}
 use borrow.Author.Tests.{not-true, not-false}
 use Rattle.inner_gathering.proofs.Turning.{sole-of}
 use Rattle.inner_comparing.proofs.Verifying.{heir-ready, heir-differs, heir-agrees}
@@ -8,7 +7,7 @@ use Rattle.inner_comparing.proofs.sides.verify_lower.Statement.{stateme
 use Rattle.inner_comparing.proofs.sides.verify_lower.Tie as tie
 
 sole-step-requires : tie.Need-sole-step-requires
-sole-step-requires c κs = search needs
+sole-step-requires c κs = c .before .before .before .before .before .before .before .before .before .pre .0 .2
 
 heir-stands-requires : tie.Need-heir-stands-requires
 heir-stands-requires c κs =
@@ -34,10 +33,10 @@ find-lower-requires c κs =
     (_, step, chains, inside, contained, end-is)
 
 enum-known-sought : tie.Need-enum-known-sought
-enum-known-sought c = search needs
+enum-known-sought c = c .match .keys1
 
 enum-told : tie.Need-enum-told
-enum-told c = search needs
+enum-told c = c .match .keys2
 
 gather-side-requires : tie.Need-gather-side-requires
 gather-side-requires c κs =

@@ -1,13 +1,17 @@
 -- `from_rows` meets its contract. The loop's invariant: the list grown and what the rest of the chain brings make what all its rows bring.
 -- The chain ascends, so what is left of the numbers up to n falls.
 use mathlib.Core.Bool.{true}
-use mathlib.Core.Path.{_≡_, ap}
-use borrow.Author.Needs.{needs}
+use mathlib.Core.Path.{_≡_, sym, ap, _∙_}
+use Prim.Native.Nat.{_<_}
+use native.Mathlib.Nat.{le-trans}
+use lib.ListN.{length}
+use borrow.Author.Needs.{needs, scaled-fits}
 use Rattle.lists.specs.Sets.{member}
 use Rattle.foundation.specs.Pattern.{Lent, lent}
+use Rattle.lists.proofs.Small.{before-fits, before-below, place-fits}
 use Rattle.inner_gathering.specs.Ready.{planOf, sideOf}
 use Rattle.inner_gathering.specs.Gathering.{without}
-use Rattle.inner_gathering.proofs.Gathering.{RowsJoined, RowRead, left, rows-start, rows-on, rows-less, row-turn, upper-brings, lower-brings, brought-within}
+use Rattle.inner_gathering.proofs.Gathering.{RowsJoined, RowRead, left, rows-start, rows-on, rows-less, row-turn, row-in-starts, upper-brings, lower-brings, brought-within}
 use Rattle.inner_gathering.proofs.Joining.{gathers-here, gathers-turn, gathers-end}
 use Rattle.inner_gathering.proofs.gather.from_rows.Statement.{statement}
 use Rattle.inner_gathering.proofs.gather.from_rows.Tie as tie
@@ -34,36 +38,40 @@ pattern s = lent (s .args .n) (s .args .starts .now) (s .args .columns .now)
 met : (c : tie.In-loop Inv-loop μ-loop) → member (c .before .loop .i) (planOf (pattern (start c)) .firstMet (start c .args .k)) ≡ true
 met c = gathers-here (c .before .loop .inv) (c .loop-test .taken) .0
 
+-- the links lead on from it
+here : (c : tie.In-loop Inv-loop μ-loop) → c .before .loop .i < length (start c .args .links .now)
+here c = gathers-here (c .before .loop .inv) (c .loop-test .taken) .1
+
 -- and so it is read
 read : (c : tie.In-loop Inv-loop μ-loop) → RowRead (start c .args .n) (start c .args .starts .now) (start c .args .columns .now) (c .before .loop .i)
 read c = let s = start c in row-turn _ _ _ (s .pre .0 .0) _ (s .pre .0 .1) (s .pre .0 .2) _ (met c)
 
 sub-from : tie.Need-sub-from Inv-loop μ-loop
-sub-from c = let r = read (c .before) in search needs
+sub-from c = read (c .before) .low
 
 mul-from : tie.Need-mul-from Inv-loop μ-loop
-mul-from c = let r = read (c .before) in search needs
+mul-from c = before-fits (row-in-starts (read (c .before))) (c .before .before .before .before .before .before .before .before .good .1 .1 .1 .1 .1 .0 .1)
 
 shared-slice-read-from : tie.Need-shared-slice-read-from Inv-loop μ-loop
-shared-slice-read-from c = let r = read (c .before .before) in search needs
+shared-slice-read-from c = before-below (row-in-starts (read (c .before .before)))
 
 mul-to : tie.Need-mul-to Inv-loop μ-loop
-mul-to c = let r = read (c .before .before) in search needs
+mul-to c = scaled-fits _ _ _ (row-in-starts (read (c .before .before))) (c .before .before .before .before .before .before .before .before .before .good .1 .1 .1 .1 .1 .0 .1)
 
 shared-slice-read-to : tie.Need-shared-slice-read-to Inv-loop μ-loop
-shared-slice-read-to c = let r = read (c .before .before .before) in search needs
+shared-slice-read-to c = row-in-starts (read (c .before .before .before))
 
 mul-join : tie.Need-mul-join Inv-loop μ-loop
-mul-join c = let r = read (c .before .before .before) in search needs
+mul-join c = let r = read (c .before .before .before) in place-fits (le-trans (r .rising) (r .inside)) (c .before .before .before .before .before .before .before .before .before .before .good .1 .1 .1 .1 .1 .1 .0 .1)
 
 sub-join : tie.Need-sub-join Inv-loop μ-loop
-sub-join c = let r = read (c .before .before .before) in search needs
+sub-join c = read (c .before .before .before) .rising
 
 part-join-start : tie.Need-part-join-start Inv-loop μ-loop
-part-join-start c = let r = read (c .before .before .before) in search needs
+part-join-start c = read (c .before .before .before) .rising
 
 part-join-end : tie.Need-part-join-end Inv-loop μ-loop
-part-join-end c = let r = read (c .before .before .before) in search needs
+part-join-end c = read (c .before .before .before) .inside
 
 join-requires : tie.Need-join-requires Inv-loop μ-loop
 join-requires c κs =
@@ -74,16 +82,10 @@ join-requires c κs =
     (g .so-far, g .grown, g .within, brought-within _ _ _ (s .pre .0 .0) _ (s .pre .0 .1) (s .pre .0 .2) (s .args .upper) _ (met at) _ e)
 
 mul-i : tie.Need-mul-i Inv-loop μ-loop
-mul-i c =
-    let at = c .before .before .before .before .before .before .before .before .before .before .before in
-    let h = gathers-here (at .before .loop .inv) (at .loop-test .taken) in
-    search needs
+mul-i c = scaled-fits _ _ _ (here (c .before .before .before .before .before .before .before .before .before .before .before)) (c .before .before .before .before .before .before .before .before .before .before .before .before .before .before .before .before .before .before .good .1 .1 .1 .1 .0 .1)
 
 shared-slice-read-i : tie.Need-shared-slice-read-i Inv-loop μ-loop
-shared-slice-read-i c =
-    let at = c .before .before .before .before .before .before .before .before .before .before .before .before in
-    let h = gathers-here (at .before .loop .inv) (at .loop-test .taken) in
-    search needs
+shared-slice-read-i c = here (c .before .before .before .before .before .before .before .before .before .before .before .before)
 
 loop-less : tie.Need-loop-less Inv-loop μ-loop
 loop-less c = let at = c .before .before .before .before .before .before .before .before .before .before .before .before in rows-less (at .before .loop .inv) (at .loop-test .taken) (read at .high)
@@ -109,16 +111,10 @@ join-requires-2 c κs =
     (g .so-far, g .grown, g .within, brought-within _ _ _ (s .pre .0 .0) _ (s .pre .0 .1) (s .pre .0 .2) (s .args .upper) _ (met at) _ e)
 
 mul-i-2 : tie.Need-mul-i-2 Inv-loop μ-loop
-mul-i-2 c =
-    let at = c .before .before .before .before .before .before .before .before .before in
-    let h = gathers-here (at .before .loop .inv) (at .loop-test .taken) in
-    search needs
+mul-i-2 c = scaled-fits _ _ _ (here (c .before .before .before .before .before .before .before .before .before)) (c .before .before .before .before .before .before .before .before .before .before .before .before .before .before .before .before .good .1 .1 .1 .1 .0 .1)
 
 shared-slice-read-i-2 : tie.Need-shared-slice-read-i-2 Inv-loop μ-loop
-shared-slice-read-i-2 c =
-    let at = c .before .before .before .before .before .before .before .before .before .before in
-    let h = gathers-here (at .before .loop .inv) (at .loop-test .taken) in
-    search needs
+shared-slice-read-i-2 c = here (c .before .before .before .before .before .before .before .before .before .before)
 
 loop-less-2 : tie.Need-loop-less-2 Inv-loop μ-loop
 loop-less-2 c = let at = c .before .before .before .before .before .before .before .before .before .before in rows-less (at .before .loop .inv) (at .loop-test .taken) (read at .high)
@@ -133,10 +129,10 @@ loop-again-2 c =
     (ap (without _) e) (rows-on _) (c .before .before .before .before .before .join2 .ensures (g .so-far) (g .grown))
 
 same-length : tie.Need-same-length Inv-loop μ-loop
-same-length c = let h = gathers-end (c .before .loop .inv) (c .loop-test .left) in search needs
+same-length c = gathers-end (c .before .loop .inv) (c .loop-test .left) .list-size ∙ sym (c .before .before .before .before .before .before .before .pre .1 .1 .0)
 
 same-length-2 : tie.Need-same-length-2 Inv-loop μ-loop
-same-length-2 c = let h = gathers-end (c .before .loop .inv) (c .loop-test .left) in search needs
+same-length-2 c = gathers-end (c .before .loop .inv) (c .loop-test .left) .spare-size ∙ sym (c .before .before .before .before .before .before .before .pre .1 .1 .1)
 
 returns : tie.Need-returns Inv-loop μ-loop
 returns c = gathers-end (c .before .loop .inv) (c .loop-test .left)

@@ -1,13 +1,15 @@
 -- `from_steps` meets its contract. The loop's invariant, for each pattern whose steps the stores contain: the list grown and what the rest of the chain
 -- hands on make the kept list of k. The chain falls.
-use mathlib.Core.Path.{ap}
-use Prim.Native.Nat.{ℕ}
+use mathlib.Core.Path.{sym, ap, _∙_}
+use Prim.Native.Nat.{ℕ, _<_}
 use native.Mathlib.Omega.{arith}
-use borrow.Author.Needs.{needs}
+use lib.ListN.{length}
+use borrow.Author.Needs.{needs, scaled-fits}
 use Rattle.foundation.specs.Pattern.{Lent}
+use Rattle.lists.proofs.Small.{before-fits, before-below}
 use Rattle.inner_gathering.specs.Ready.{sideOf}
 use Rattle.inner_gathering.specs.Gathering.{without}
-use Rattle.inner_gathering.proofs.Gathering.{StepsReady, StepsJoined, StepRead, steps-start, steps-on, steps-less, step-turn, step-list}
+use Rattle.inner_gathering.proofs.Gathering.{StepsReady, StepsJoined, StepRead, steps-start, steps-on, steps-less, step-turn, step-in-slots, step-in-starts, step-list}
 use Rattle.inner_gathering.proofs.Joining.{gathers-here, gathers-turn, gathers-end}
 use Rattle.inner_gathering.proofs.gather.from_steps.Statement.{statement}
 use Rattle.inner_gathering.proofs.gather.from_steps.Tie as tie
@@ -42,30 +44,35 @@ read c =
     let r = ready (start c) in
     step-turn (start c .pre .3) (start c .pre .4) r _ (gathers-here (c .before .loop .inv _ r) (c .loop-test .taken) .0)
 
+-- and the links lead on from it
+here : (c : tie.In-loop Inv-loop μ-loop) → c .before .loop .l < length (start c .args .links .now)
+here c = gathers-here (c .before .loop .inv _ (ready (start c))) (c .loop-test .taken) .1
+
 sub-t17 : tie.Need-sub-t17 Inv-loop μ-loop
-sub-t17 c = let r = read c in search needs
+sub-t17 c = read c .low
 
 mul-t18 : tie.Need-mul-t18 Inv-loop μ-loop
-mul-t18 c = let r = read c in search needs
+mul-t18 c = before-fits (step-in-slots (read (c))) (c .before .before .before .before .before .before .before .before .good .1 .1 .1 .1 .1 .1 .1 .0 .1)
 
 shared-slice-read-t20 : tie.Need-shared-slice-read-t20 Inv-loop μ-loop
-shared-slice-read-t20 c = let r = read (c .before) in search needs
+shared-slice-read-t20 c = before-below (step-in-slots (read (c .before)))
 
 mul-l : tie.Need-mul-l Inv-loop μ-loop
-mul-l c = let r = read (c .before) in search needs
+mul-l c = scaled-fits _ _ _ (step-in-slots (read (c .before))) (c .before .before .before .before .before .before .before .before .before .good .1 .1 .1 .1 .1 .1 .1 .0 .1)
 
 shared-slice-read-l : tie.Need-shared-slice-read-l Inv-loop μ-loop
-shared-slice-read-l c = let r = read (c .before .before) in search needs
+shared-slice-read-l c = step-in-slots (read (c .before .before))
 
 slots-between-requires : tie.Need-slots-between-requires Inv-loop μ-loop
 slots-between-requires c κs = read (c .before .before) .opens .rising
 
 sub-l : tie.Need-sub-l Inv-loop μ-loop
-sub-l c = let r = read (c .before .before .before) in search needs
+sub-l c = read (c .before .before .before) .low
 
 mul-l-2 : tie.Need-mul-l-2 Inv-loop μ-loop
-mul-l-2 c = let r = read (c .before .before .before) in search needs
+mul-l-2 c = scaled-fits _ _ _ (step-in-starts (read (c .before .before .before))) (c .before .before .before .before .before .before .before .before .before .before .before .good .1 .1 .1 .1 .1 .1 .0 .1)
 
+-- by arithmetic, which serves the starts of the slots too: code that reads those is refused for the list that it opens
 shared-slice-read-l-2 : tie.Need-shared-slice-read-l-2 Inv-loop μ-loop
 shared-slice-read-l-2 c = let r = read (c .before .before .before .before) in search needs
 
@@ -85,16 +92,10 @@ join-requires c κs =
     (g .so-far, g .grown, g .within, rw e (r .within))
 
 mul-l-3 : tie.Need-mul-l-3 Inv-loop μ-loop
-mul-l-3 c =
-    let at = c .before .before .before .before .before .before .before .before .before .before .before .before in
-    let h = gathers-here (at .before .loop .inv _ (ready (start at))) (at .loop-test .taken) in
-    search needs
+mul-l-3 c = scaled-fits _ _ _ (here (c .before .before .before .before .before .before .before .before .before .before .before .before)) (c .before .before .before .before .before .before .before .before .before .before .before .before .before .before .before .before .before .before .before .before .good .1 .1 .1 .1 .0 .1)
 
 shared-slice-read-l-3 : tie.Need-shared-slice-read-l-3 Inv-loop μ-loop
-shared-slice-read-l-3 c =
-    let at = c .before .before .before .before .before .before .before .before .before .before .before .before .before in
-    let h = gathers-here (at .before .loop .inv _ (ready (start at))) (at .loop-test .taken) in
-    search needs
+shared-slice-read-l-3 c = here (c .before .before .before .before .before .before .before .before .before .before .before .before .before)
 
 loop-less : tie.Need-loop-less Inv-loop μ-loop
 loop-less c = let at = c .before .before .before .before .before .before .before .before .before .before .before .before .before in steps-less (at .before .loop .inv _ (ready (start at))) (at .loop-test .taken)
@@ -111,13 +112,13 @@ loop-again c =
 
 same-length : tie.Need-same-length Inv-loop μ-loop
 same-length c =
-    let h = gathers-end (c .before .loop .inv _ (ready (c .before .before .before .before .before .before .before .before))) (c .loop-test .left) in
-    search needs
+    let r = ready (c .before .before .before .before .before .before .before .before) in
+    gathers-end (c .before .loop .inv _ r) (c .loop-test .left) .list-size ∙ sym (r .grown .list-size)
 
 same-length-2 : tie.Need-same-length-2 Inv-loop μ-loop
 same-length-2 c =
-    let h = gathers-end (c .before .loop .inv _ (ready (c .before .before .before .before .before .before .before .before))) (c .loop-test .left) in
-    search needs
+    let r = ready (c .before .before .before .before .before .before .before .before) in
+    gathers-end (c .before .loop .inv _ r) (c .loop-test .left) .spare-size ∙ sym (r .grown .spare-size)
 
 returns : tie.Need-returns Inv-loop μ-loop
 returns c =

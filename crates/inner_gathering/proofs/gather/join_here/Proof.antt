@@ -1,29 +1,31 @@
 -- `join_here` meets its contract: a list that only adds behind the end of what is grown is written there; of any other the union with what is
 -- grown goes into the other store.
 use mathlib.Core.Path.{refl}
+use Prim.Native.Nat.{zero-le}
+use native.Mathlib.Nat.{le-refl}
 use native.Mathlib.Omega.{arith}
-use borrow.Author.Needs.{needs}
+use Rattle.lists.proofs.Small.{still-inside}
 use Rattle.inner_gathering.proofs.Joining.{merge-room, merge-grown, behind-room, behind-grown}
 use Rattle.inner_gathering.proofs.gather.join_here.Statement.{statement}
 use Rattle.inner_gathering.proofs.gather.join_here.Tie as tie
 
 after-first-requires : tie.Need-after-first-requires
-after-first-requires c κs = search needs
+after-first-requires c κs = tt
 
 sub-search-behind : tie.Need-sub-search-behind
-sub-search-behind c = search needs
+sub-search-behind c = zero-le
 
 part-search-behind-start : tie.Need-part-search-behind-start
-part-search-behind-start c = search needs
+part-search-behind-start c = zero-le
 
 part-search-behind-end : tie.Need-part-search-behind-end
-part-search-behind-end c = search needs
+part-search-behind-end c = still-inside (c .before .before .before .before .before .before .pre .1 .fits) (c .before .before .before .before .before .before .pre .1 .list-size)
 
 search-behind-requires : tie.Need-search-behind-requires
-search-behind-requires c κs = search needs
+search-behind-requires c κs = tt
 
 enum-known-at : tie.Need-enum-known-at
-enum-known-at c = search needs
+enum-known-at c = c .match .keys1
 
 mul-append : tie.Need-mul-append
 mul-append c =
@@ -38,7 +40,7 @@ part-append-start : tie.Need-part-append-start
 part-append-start c = let told = rw (c .before .at .given .1) at (c .before .before .before .search-behind .ensures) in told .0
 
 part-append-end : tie.Need-part-append-end
-part-append-end c = search needs
+part-append-end c = le-refl _
 
 append-requires : tie.Need-append-requires
 append-requires c κs =
@@ -58,16 +60,16 @@ returns c =
     (a .kept .1 .0) (a .ensures)
 
 enum-told : tie.Need-enum-told
-enum-told c = search needs
+enum-told c = c .match .keys2
 
 sub-merge : tie.Need-sub-merge
-sub-merge c = search needs
+sub-merge c = zero-le
 
 part-merge-start : tie.Need-part-merge-start
-part-merge-start c = search needs
+part-merge-start c = zero-le
 
 part-merge-end : tie.Need-part-merge-end
-part-merge-end c = search needs
+part-merge-end c = still-inside (c .before .before .before .before .before .before .pre .1 .fits) (c .before .before .before .before .before .before .pre .1 .list-size)
 
 merge-requires : tie.Need-merge-requires
 merge-requires c κs =

@@ -1,40 +1,40 @@
 -- `hand_on` meets its contract: where L_k has no further member the sets S stay, else the store's first subscript of
 -- U_k's kept list is the step whose set k joins.
-use borrow.Author.Needs.{needs}
+use borrow.Author.Needs.{scaled-fits}
+use Rattle.lists.proofs.Small.{before-fits, before-below, below-size, before-size}
 use Rattle.inner_gathering.proofs.Turning.{hands-none, hands-some}
 use Rattle.inner_gathering.proofs.sets.hand_on.Statement.{statement}
 use Rattle.inner_gathering.proofs.sets.hand_on.Tie as tie
 
 sub-if1 : tie.Need-sub-if1
-sub-if1 c = search needs
+sub-if1 c = c .before .before .before .before .before .before .before .before .pre .0 .0 .low
 
 mul-if1 : tie.Need-mul-if1
-mul-if1 c = search needs
+mul-if1 c = before-fits (below-size (c .before .before .before .before .before .before .before .before .pre .0 .0 .high) (c .before .before .before .before .before .before .before .before .pre .0 .1 .lowers-size)) (c .before .before .before .before .before .before .before .before .good .1 .1 .1 .1 .0 .1)
 
 shared-slice-read-if1 : tie.Need-shared-slice-read-if1
-shared-slice-read-if1 c = search needs
+shared-slice-read-if1 c = before-below (below-size (c .before .before .before .before .before .before .before .before .before .pre .0 .0 .high) (c .before .before .before .before .before .before .before .before .before .pre .0 .1 .lowers-size))
 
 mul-if1-2 : tie.Need-mul-if1-2
-mul-if1-2 c = search needs
+mul-if1-2 c = scaled-fits _ _ _ (below-size (c .before .before .before .before .before .before .before .before .before .pre .0 .0 .high) (c .before .before .before .before .before .before .before .before .before .pre .0 .1 .lowers-size)) (c .before .before .before .before .before .before .before .before .before .good .1 .1 .1 .1 .0 .1)
 
 shared-slice-read-if1-2 : tie.Need-shared-slice-read-if1-2
-shared-slice-read-if1-2 c = search needs
+shared-slice-read-if1-2 c = below-size (c .before .before .before .before .before .before .before .before .before .before .pre .0 .0 .high) (c .before .before .before .before .before .before .before .before .before .before .pre .0 .1 .lowers-size)
 
 sub-at : tie.Need-sub-at
-sub-at c = search needs
+sub-at c = c .before .before .before .before .before .before .before .before .before .before .before .pre .0 .0 .low
 
 mul-at : tie.Need-mul-at
-mul-at c = search needs
+mul-at c = scaled-fits _ _ _ (before-size (c .before .before .before .before .before .before .before .before .before .before .before .pre .0 .0 .low) (c .before .before .before .before .before .before .before .before .before .before .before .pre .0 .0 .high) (c .before .before .before .before .before .before .before .before .before .before .before .pre .1 .0 .starts-size)) (c .before .before .before .before .before .before .before .before .before .before .before .good .1 .1 .1 .1 .1 .1 .0 .1)
 
 shared-slice-read-at : tie.Need-shared-slice-read-at
-shared-slice-read-at c = search needs
+shared-slice-read-at c = before-size (c .before .before .before .before .before .before .before .before .before .before .before .before .pre .0 .0 .low) (c .before .before .before .before .before .before .before .before .before .before .before .before .pre .0 .0 .high) (c .before .before .before .before .before .before .before .before .before .before .before .before .pre .1 .0 .starts-size)
 
 mul-push : tie.Need-mul-push
 mul-push c =
     let pre = c .before .before .before .before .before .before .before .before .before .before .before .before .before .before .pre in
     let to = hands-some _ _ _ (pre .0 .0) (pre .0 .1) (pre .1 .0) (c .before .before .before .if1 .taken) (pre .1 .1) in
-    let h = to .inside in
-    search needs
+    scaled-fits _ _ _ (to .inside) (c .before .before .before .before .before .before .before .before .before .before .before .before .before .before .good .1 .1 .1 .1 .1 .0 .1)
 
 shared-slice-read-push : tie.Need-shared-slice-read-push
 shared-slice-read-push c =
@@ -49,10 +49,10 @@ push-requires c κs =
     (to .in-heads, to .in-links)
 
 same-length : tie.Need-same-length
-same-length c = search needs
+same-length c = c .before .before .before .before .push .kept .0
 
 same-length-2 : tie.Need-same-length-2
-same-length-2 c = search needs
+same-length-2 c = c .before .before .before .before .push .kept .1 .0
 
 returns : tie.Need-returns
 returns c =

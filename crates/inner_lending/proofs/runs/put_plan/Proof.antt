@@ -1,53 +1,54 @@
 -- `put_plan` meets its contract.
-use Rattle.inner_lending.proofs.Arrays.{plan-sized}
-use borrow.Author.Needs.{needs}
+use mathlib.Core.Path.{refl}
+use Prim.Native.Nat.{zero-le}
+use Rattle.inner_lending.proofs.Arrays.{more-fits, more-within, plan-sized}
 use Rattle.inner_lending.proofs.runs.put_plan.Statement.{statement}
 use Rattle.inner_lending.proofs.runs.put_plan.Tie as tie
 
 add-more : tie.Need-add-more
-add-more c = search needs
+add-more c = more-fits (c .before .before .before .before .before .before .pre .1)
 
 slice-aggregate-put-plan-in : tie.Need-slice-aggregate-put-plan-in
-slice-aggregate-put-plan-in c = search needs
+slice-aggregate-put-plan-in c = refl
 
 sub-put-plan-in : tie.Need-sub-put-plan-in
-sub-put-plan-in c = search needs
+sub-put-plan-in c = zero-le
 
 part-l-starts-start : tie.Need-part-l-starts-start
-part-l-starts-start c = search needs
+part-l-starts-start c = zero-le
 
 part-l-starts-end : tie.Need-part-l-starts-end
-part-l-starts-end c = search needs
+part-l-starts-end c = c .before .before .before .before .before .before .before .before .pre .1
 
 sub-put-plan-in-2 : tie.Need-sub-put-plan-in-2
-sub-put-plan-in-2 c = search needs
+sub-put-plan-in-2 c = zero-le
 
 part-l-slots-start : tie.Need-part-l-slots-start
-part-l-slots-start c = search needs
+part-l-slots-start c = zero-le
 
 part-l-slots-end : tie.Need-part-l-slots-end
-part-l-slots-end c = search needs
+part-l-slots-end c = more-within (c .before .before .before .before .before .before .before .before .before .pre .1)
 
 slice-aggregate-put-plan-in-2 : tie.Need-slice-aggregate-put-plan-in-2
-slice-aggregate-put-plan-in-2 c = search needs
+slice-aggregate-put-plan-in-2 c = refl
 
 sub-put-plan-in-3 : tie.Need-sub-put-plan-in-3
-sub-put-plan-in-3 c = search needs
+sub-put-plan-in-3 c = zero-le
 
 part-u-starts-start : tie.Need-part-u-starts-start
-part-u-starts-start c = search needs
+part-u-starts-start c = zero-le
 
 part-u-starts-end : tie.Need-part-u-starts-end
-part-u-starts-end c = search needs
+part-u-starts-end c = c .before .before .before .before .before .before .before .before .before .before .before .pre .1
 
 sub-put-plan-in-4 : tie.Need-sub-put-plan-in-4
-sub-put-plan-in-4 c = search needs
+sub-put-plan-in-4 c = zero-le
 
 part-u-slots-start : tie.Need-part-u-slots-start
-part-u-slots-start c = search needs
+part-u-slots-start c = zero-le
 
 part-u-slots-end : tie.Need-part-u-slots-end
-part-u-slots-end c = search needs
+part-u-slots-end c = more-within (c .before .before .before .before .before .before .before .before .before .before .before .before .pre .1)
 
 put-plan-in-requires : tie.Need-put-plan-in-requires
 put-plan-in-requires c κs = (c .before .before .before .before .before .before .before .before .before .before .before .before .before .pre .0, c .before .before .before .before .before .before .before .before .before .before .before .before .before .pre .1, plan-sized _ (c .before .before .before .before .before .before .before .before .before .before .before .before .before .pre .1))

@@ -1,10 +1,9 @@
 -- `put_plan_in` meets its contract.
-use native.Mathlib.Omega.{arith}
 use Rattle.inner_lending.proofs.Reports.{afterPlan, plan-text}
+use Rattle.inner_lending.proofs.Arrays.{line-room}
 use Rattle.inner_lending.proofs.Planned.{plan-made, plan-refused}
 use Rattle.inner_lending.specs.Lending.{jobPlan}
 use Rattle.inner_lending.specs.Answering.{jobFrom}
-use borrow.Author.Needs.{needs}
 use Rattle.inner_lending.proofs.runs.put_plan_in.Statement.{statement}
 use Rattle.inner_lending.proofs.runs.put_plan_in.Tie as tie
 
@@ -12,13 +11,13 @@ plan-job-requires : tie.Need-plan-job-requires
 plan-job-requires c κs = (c .before .before .before .before .before .before .before .before .before .before .before .before .before .before .before .before .before .before .pre .1, c .before .before .before .before .before .before .before .before .before .before .before .before .before .before .before .before .before .before .pre .2)
 
 enum-known-answer : tie.Need-enum-known-answer
-enum-known-answer c = search needs
+enum-known-answer c = c .match .keys1
 
 put-plan-refused-requires : tie.Need-put-plan-refused-requires
-put-plan-refused-requires c κs = omega (arith, c .before .before .before .before .before .before .before .before .before .before .before .before .before .before .before .before .before .before .before .before .before .before .before .before .before .before .before .before .before .before .before .before .before .before .before .pre .0)
+put-plan-refused-requires c κs = line-room (c .before .before .before .before .before .before .before .before .before .before .before .before .before .before .before .before .before .before .before .before .before .before .before .before .before .before .before .before .before .before .before .before .before .before .before .pre .0)
 
 enum-known-answer-2 : tie.Need-enum-known-answer-2
-enum-known-answer-2 c = search needs
+enum-known-answer-2 c = c .match .keys2
 
 put-run-requires : tie.Need-put-run-requires
 put-run-requires c κs =

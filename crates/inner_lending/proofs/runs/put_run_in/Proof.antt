@@ -1,6 +1,7 @@
 -- `put_run_in` meets its contract.
-use native.Mathlib.Omega.{arith}
+use mathlib.Core.Path.{_∙_}
 use Rattle.foundation.specs.Printing.{jobText, jobRun}
+use Rattle.inner_lending.proofs.Arrays.{at-most}
 use Rattle.inner_lending.proofs.Reports.{run-reported}
 use Rattle.inner_lending.specs.Answering.{jobFrom}
 use Rattle.inner_lending.proofs.runs.put_run_in.Statement.{statement}
@@ -14,8 +15,8 @@ put-ran-requires c κs =
     let p = c .before .before .before .before .before .before .before .before .before .before .before .before .before .before .before .before .before .before .before .before .before .before .before .before .before .before .before .before .before .before .before .before .before .before .before .before .pre in
     let n = c .before .before .before .before .before .before .before .before .before .before .before .before .before .run-job in (
       p .0,
-      omega (arith, n .kept .1 .1 .1 .1 .1 .1 .1 .1 .1 .1 .1 .1 .1 .1 .1 .1 .1 .0, p .3 .pivots-size, p .1),
-      omega (arith, n .kept .1 .1 .1 .1 .1 .1 .1 .1 .1 .1 .1 .1 .1 .1 .1 .1 .0, p .3 .x-size, p .1),
+      at-most (n .kept .1 .1 .1 .1 .1 .1 .1 .1 .1 .1 .1 .1 .1 .1 .1 .1 .1 .0 ∙ p .3 .pivots-size) (p .1),
+      at-most (n .kept .1 .1 .1 .1 .1 .1 .1 .1 .1 .1 .1 .1 .1 .1 .1 .1 .0 ∙ p .3 .x-size) (p .1),
     )
 
 same-length : tie.Need-same-length

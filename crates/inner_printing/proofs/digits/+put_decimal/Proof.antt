@@ -1,4 +1,5 @@
 -- `put_decimal` meets its contract. The measure is the number: what is left of it without its last digit is smaller.
+use mathlib.Core.Path.{_∙_}
 use borrow.Author.Needs.{needs}
 use native.Mathlib.Omega.{arith}
 use Rattle.inner_printing.proofs.Decimals.{last-digit, only-digit, only-room, room-before, last-room}
@@ -33,7 +34,7 @@ put-decimal-digit-requires : (t : ℕ) → put-decimal-lts.Need-digit-requires (
   put-decimal-below t,
   put-decimal.Post,
 ) (put-decimal-at t) put-decimal.Post
-put-decimal-digit-requires t c κs = search needs
+put-decimal-digit-requires t c κs = c .before .if1 .taken
 
 put-decimal-put-byte-requires : (t : ℕ) → put-decimal-lts.Need-put-byte-requires (
   digit-reads.Asked,
@@ -43,7 +44,7 @@ put-decimal-put-byte-requires : (t : ℕ) → put-decimal-lts.Need-put-byte-requ
   put-decimal-below t,
   put-decimal.Post,
 ) (put-decimal-at t) put-decimal.Post
-put-decimal-put-byte-requires t c κs = only-room _ _ _ (search needs) (c .before .before .before .before .pre .1)
+put-decimal-put-byte-requires t c κs = only-room _ _ _ (c .before .before .if1 .taken) (c .before .before .before .before .pre .1)
 
 put-decimal-same-length : (t : ℕ) → put-decimal-lts.Need-same-length (
   digit-reads.Asked,
@@ -53,7 +54,7 @@ put-decimal-same-length : (t : ℕ) → put-decimal-lts.Need-same-length (
   put-decimal-below t,
   put-decimal.Post,
 ) (put-decimal-at t) put-decimal.Post
-put-decimal-same-length t c = search needs
+put-decimal-same-length t c = c .before .before .put-byte .kept .0
 
 put-decimal-returns : (t : ℕ) → put-decimal-lts.Need-returns (
   digit-reads.Asked,
@@ -63,7 +64,7 @@ put-decimal-returns : (t : ℕ) → put-decimal-lts.Need-returns (
   put-decimal-below t,
   put-decimal.Post,
 ) (put-decimal-at t) put-decimal.Post
-put-decimal-returns t c = only-digit _ (search needs) (c .before .before .before .digit .ensures) (c .before .before .put-byte .ensures)
+put-decimal-returns t c = only-digit _ (c .before .before .before .before .before .if1 .taken) (c .before .before .before .digit .ensures) (c .before .before .put-byte .ensures)
 
 put-decimal-put-decimal-requires : (t : ℕ) → put-decimal-lts.Need-put-decimal-requires (
   digit-reads.Asked,
@@ -75,7 +76,7 @@ put-decimal-put-decimal-requires : (t : ℕ) → put-decimal-lts.Need-put-decima
 ) (put-decimal-at t) put-decimal.Post
 put-decimal-put-decimal-requires t c κs =
     let b = c .before .before .before in
-    let h : 10 ≤ b .args .n = omega arith in
+    let h : 10 ≤ b .args .n = c .before .if1 .left in
     (omega arith, le-of-lt (room-before (b .args .at) _ (b .args .n) h (b .pre .1)))
 
 put-decimal-digit-requires-2 : (t : ℕ) → put-decimal-lts.Need-digit-requires-2 (
@@ -98,7 +99,7 @@ put-decimal-put-byte-requires-2 : (t : ℕ) → put-decimal-lts.Need-put-byte-re
 ) (put-decimal-at t) put-decimal.Post
 put-decimal-put-byte-requires-2 t c κs =
     let b = c .before .before .before .before .before .before .before .before in
-    last-room (b .args .out .now) _ (b .args .at) _ (b .args .n) (search needs) (b .pre .1) (c .before .before .before .before .put-decimal .ensures)
+    last-room (b .args .out .now) _ (b .args .at) _ (b .args .n) (c .before .before .before .before .before .before .if1 .left) (b .pre .1) (c .before .before .before .before .put-decimal .ensures)
 
 put-decimal-same-length-2 : (t : ℕ) → put-decimal-lts.Need-same-length-2 (
   digit-reads.Asked,
@@ -108,7 +109,7 @@ put-decimal-same-length-2 : (t : ℕ) → put-decimal-lts.Need-same-length-2 (
   put-decimal-below t,
   put-decimal.Post,
 ) (put-decimal-at t) put-decimal.Post
-put-decimal-same-length-2 t c = search needs
+put-decimal-same-length-2 t c = c .before .before .put-byte2 .kept .0 ∙ c .before .before .before .before .before .before .before .put-decimal .kept .0
 
 put-decimal-returns-2 : (t : ℕ) → put-decimal-lts.Need-returns-2 (
   digit-reads.Asked,
@@ -118,7 +119,7 @@ put-decimal-returns-2 : (t : ℕ) → put-decimal-lts.Need-returns-2 (
   put-decimal-below t,
   put-decimal.Post,
 ) (put-decimal-at t) put-decimal.Post
-put-decimal-returns-2 t c = last-digit _ (search needs) (c .before .before .before .before .before .before .before .put-decimal .ensures) (c .before .before .before .digit2 .ensures) (c .before .before .put-byte2 .ensures)
+put-decimal-returns-2 t c = last-digit _ (c .before .before .before .before .before .before .before .before .before .if1 .left) (c .before .before .before .before .before .before .before .put-decimal .ensures) (c .before .before .before .digit2 .ensures) (c .before .before .put-byte2 .ensures)
 
 pub +put-decimal-spec : {M : Type 1} → statement M
 +put-decimal-spec = close μ-put-decimal λ t. put-decimal-lts.spec (

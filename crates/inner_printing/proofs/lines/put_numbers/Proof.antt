@@ -1,12 +1,11 @@
 -- `put_numbers` meets its contract: before number i the first i stand, each in 21 places at most.
-use Prim.Native.Nat.{_+_, _*_, _-_, _≤_}
+use Prim.Native.Nat.{_+_, _*_, _-_, _≤_, zero-le}
+use native.Mathlib.Nat.{le-add-right}
 use lib.ListN.{length, take}
 use Rattle.lists.specs.Functions.{chain}
 use Rattle.foundation.specs.Printing.{spaced}
 use Rattle.inner_printing.specs.Appended.{Appended}
-use native.Mathlib.Omega.{arith}
-use Rattle.inner_printing.proofs.Lining.{numbers-start, numbers-turn, numbers-end}
-use borrow.Author.Needs.{needs}
+use Rattle.inner_printing.proofs.Lining.{less, next-le, index-fits, next-fits, lines-room, lines-more, lines-end, numbers-start, numbers-turn, numbers-end}
 use Rattle.inner_printing.proofs.lines.put_numbers.Statement.{statement}
 use Rattle.inner_printing.proofs.lines.put_numbers.Tie as tie
 
@@ -19,30 +18,30 @@ abbrev μ-loop : tie.MeasureT-loop
 loop-holds : tie.Need-loop-holds Inv-loop μ-loop
 loop-holds c =
     let a = c .before .before .args in
-    (search needs, search needs, numbers-start (a .out .now) (a .numbers .now) (a .at))
+    (zero-le, le-add-right _ _, numbers-start (a .out .now) (a .numbers .now) (a .at))
 
 mul-put-spaced : tie.Need-mul-put-spaced Inv-loop μ-loop
-mul-put-spaced c = search needs
+mul-put-spaced c = index-fits (c .before .loop-test .taken) (c .before .before .before .before .before .good .1 .1 .0 .1)
 
 shared-slice-read-put-spaced : tie.Need-shared-slice-read-put-spaced Inv-loop μ-loop
-shared-slice-read-put-spaced c = search needs
+shared-slice-read-put-spaced c = c .before .before .loop-test .taken
 
 put-spaced-requires : tie.Need-put-spaced-requires Inv-loop μ-loop
 put-spaced-requires c κs =
     let l = c .before .before .before .loop in
-    omega (arith, l .inv .2 .size, c .before .before .before .before .before .before .pre)
+    lines-room 21 _ (l .i) _ (l .inv .1) (c .before .before .loop-test .taken) (c .before .before .before .before .before .before .pre) (l .inv .2 .size)
 
 add-i : tie.Need-add-i Inv-loop μ-loop
-add-i c = search needs
+add-i c = next-fits (c .before .before .before .before .before .loop-test .taken) (c .before .before .before .before .before .before .before .before .before .good .1 .1 .0 .1)
 
 loop-less : tie.Need-loop-less Inv-loop μ-loop
-loop-less c = search needs
+loop-less c = less (c .before .before .before .before .before .loop-test .taken)
 
 loop-again : tie.Need-loop-again Inv-loop μ-loop
 loop-again c =
     let l = c .before .before .before .before .before .before .loop in
     let e = c .before .before .put-spaced .ensures in
-    (search needs, omega (arith, e .1), numbers-turn (c .before .before .before .before .before .before .before .before .before .args .numbers .now) (l .i) (search needs) (l .inv .2) (e .0))
+    (next-le (c .before .before .before .before .before .loop-test .taken), lines-more 21 _ (l .i) (l .inv .1) (e .1), numbers-turn (c .before .before .before .before .before .before .before .before .before .args .numbers .now) (l .i) (c .before .before .before .before .before .loop-test .taken) (l .inv .2) (e .0))
 
 same-length : tie.Need-same-length Inv-loop μ-loop
 same-length c = c .before .loop .inv .2 .size
@@ -50,7 +49,7 @@ same-length c = c .before .loop .inv .2 .size
 returns : tie.Need-returns Inv-loop μ-loop
 returns c =
     let l = c .before .loop in
-    (numbers-end (c .before .before .before .before .args .numbers .now) (l .i) (search needs) (l .inv .2), omega arith)
+    (numbers-end (c .before .before .before .before .args .numbers .now) (l .i) (c .loop-test .left) (l .inv .2), lines-end 21 _ (l .i) _ (l .inv .1) (l .inv .0))
 
 pub put-numbers-spec : {M : Type 1} → statement M
 put-numbers-spec =

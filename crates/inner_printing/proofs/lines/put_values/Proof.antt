@@ -1,10 +1,10 @@
 -- `put_values` meets its contract: before row i + 1 the lines of the first i stand, each in 40 places at most.
-use native.Mathlib.Omega.{arith}
-use Prim.Native.Nat.{_+_, _*_, _-_, _≤_}
+use Prim.Native.Nat.{_+_, _*_, _-_, _≤_, zero-le}
+use native.Mathlib.Nat.{le-add-right}
 use lib.ListN.{length, take}
 use Rattle.inner_printing.specs.Appended.{Appended}
 use Rattle.inner_printing.specs.Lines.{valueLines}
-use Rattle.inner_printing.proofs.Lining.{values-start, values-turn, values-end}
+use Rattle.inner_printing.proofs.Lining.{less, next-le, index-fits, next-fits, lines-room, lines-more, lines-end, values-start, values-turn, values-end}
 use borrow.Author.Needs.{needs}
 use Rattle.inner_printing.proofs.lines.put_values.Statement.{statement}
 use Rattle.inner_printing.proofs.lines.put_values.Tie as tie
@@ -18,33 +18,34 @@ abbrev μ-loop : tie.MeasureT-loop
 loop-holds : tie.Need-loop-holds Inv-loop μ-loop
 loop-holds c =
     let a = c .before .before .args in
-    (search needs, search needs, values-start (a .out .now) (a .values .now) (a .at))
+    (zero-le, le-add-right _ _, values-start (a .out .now) (a .values .now) (a .at))
 
+-- arithmetic reads all that is known here, since the row's number is what an edit changes
 add-put-value : tie.Need-add-put-value Inv-loop μ-loop
 add-put-value c = search needs
 
 mul-put-value : tie.Need-mul-put-value Inv-loop μ-loop
-mul-put-value c = search needs
+mul-put-value c = index-fits (c .before .loop-test .taken) (c .before .before .before .before .before .good .1 .1 .0 .1)
 
 shared-slice-read-put-value : tie.Need-shared-slice-read-put-value Inv-loop μ-loop
-shared-slice-read-put-value c = search needs
+shared-slice-read-put-value c = c .before .before .loop-test .taken
 
 put-value-requires : tie.Need-put-value-requires Inv-loop μ-loop
 put-value-requires c κs =
     let l = c .before .before .before .loop in
-    omega (arith, l .inv .2 .size, c .before .before .before .before .before .before .pre)
+    lines-room 40 _ (l .i) _ (l .inv .1) (c .before .before .loop-test .taken) (c .before .before .before .before .before .before .pre) (l .inv .2 .size)
 
 add-i : tie.Need-add-i Inv-loop μ-loop
-add-i c = search needs
+add-i c = next-fits (c .before .before .before .before .before .loop-test .taken) (c .before .before .before .before .before .before .before .before .before .good .1 .1 .0 .1)
 
 loop-less : tie.Need-loop-less Inv-loop μ-loop
-loop-less c = search needs
+loop-less c = less (c .before .before .before .before .before .loop-test .taken)
 
 loop-again : tie.Need-loop-again Inv-loop μ-loop
 loop-again c =
     let l = c .before .before .before .before .before .before .loop in
     let e = c .before .before .put-value .ensures in
-    (search needs, omega (arith, e .1), values-turn (c .before .before .before .before .before .before .before .before .before .args .values .now) (l .i) (search needs) (l .inv .2) (e .0))
+    (next-le (c .before .before .before .before .before .loop-test .taken), lines-more 40 _ (l .i) (l .inv .1) (e .1), values-turn (c .before .before .before .before .before .before .before .before .before .args .values .now) (l .i) (c .before .before .before .before .before .loop-test .taken) (l .inv .2) (e .0))
 
 same-length : tie.Need-same-length Inv-loop μ-loop
 same-length c = c .before .loop .inv .2 .size
@@ -52,7 +53,7 @@ same-length c = c .before .loop .inv .2 .size
 returns : tie.Need-returns Inv-loop μ-loop
 returns c =
     let l = c .before .loop in
-    (values-end (c .before .before .before .before .args .values .now) (l .i) (search needs) (l .inv .2), omega arith)
+    (values-end (c .before .before .before .before .args .values .now) (l .i) (c .loop-test .left) (l .inv .2), lines-end 40 _ (l .i) _ (l .inv .1) (l .inv .0))
 
 pub put-values-spec : {M : Type 1} → statement M
 put-values-spec =

@@ -1,11 +1,12 @@
 -- `stands_at` meets its contract. The loop's invariant: the list's first i numbers stand at their places in the store.
 use mathlib.Core.Path.{_≡_, sym}
-use Prim.Native.Nat.{ℕ, _+_, _-_, _≤_, _<_}
-use native.Mathlib.Omega.{arith}
+use Prim.Native.Nat.{ℕ, _+_, _-_, _≤_, _<_, zero-le}
+use native.Mathlib.Nat.{le-of-lt, lt-of-lt-of-le}
 use lib.ListN.{length, getD}
-use borrow.Author.Count.{below-more}
-use borrow.Author.Needs.{needs}
-use Rattle.inner_sharing.proofs.Comparing.{stands-short, stands-apart, stands-whole}
+use borrow.Author.Count.{falls, below-none, below-more}
+use borrow.Author.Needs.{scaled-fits}
+use Rattle.lists.proofs.Small.{next-le, next-fits, end-fits}
+use Rattle.inner_sharing.proofs.Comparing.{stands-inside, stands-short, stands-apart, stands-whole}
 use Rattle.inner_sharing.proofs.compare.stands_at.Statement.{statement}
 use Rattle.inner_sharing.proofs.compare.stands_at.Tie as tie
 
@@ -16,25 +17,25 @@ abbrev μ-loop : tie.MeasureT-loop
 μ-loop list store at i₀ i = length list - i
 
 sub-if1 : tie.Need-sub-if1 Inv-loop μ-loop
-sub-if1 c = search needs
+sub-if1 c = c .pre
 
 loop-holds : tie.Need-loop-holds Inv-loop μ-loop
-loop-holds c = search needs
+loop-holds c = (zero-le, c .if1 .taken, below-none _)
 
 add-if2 : tie.Need-add-if2 Inv-loop μ-loop
-add-if2 c = search needs
+add-if2 c = end-fits (le-of-lt (stands-inside _ _ _ _ (c .before .before .before .pre) (c .before .loop .inv .1) (c .loop-test .taken))) (c .before .before .before .good .1 .0 .1)
 
 mul-if2 : tie.Need-mul-if2 Inv-loop μ-loop
-mul-if2 c = search needs
+mul-if2 c = scaled-fits _ _ _ (stands-inside _ _ _ _ (c .before .before .before .pre) (c .before .loop .inv .1) (c .loop-test .taken)) (c .before .before .before .good .1 .0 .1)
 
 shared-slice-read-if2 : tie.Need-shared-slice-read-if2 Inv-loop μ-loop
-shared-slice-read-if2 c = search needs
+shared-slice-read-if2 c = stands-inside _ _ _ _ (c .before .before .before .before .pre) (c .before .before .loop .inv .1) (c .before .loop-test .taken)
 
 mul-if2-2 : tie.Need-mul-if2-2 Inv-loop μ-loop
-mul-if2-2 c = search needs
+mul-if2-2 c = scaled-fits _ _ _ (c .before .loop-test .taken) (c .before .before .before .before .good .0 .1)
 
 shared-slice-read-if2-2 : tie.Need-shared-slice-read-if2-2 Inv-loop μ-loop
-shared-slice-read-if2-2 c = search needs
+shared-slice-read-if2-2 c = c .before .before .loop-test .taken
 
 returns : tie.Need-returns Inv-loop μ-loop
 returns c =
@@ -42,20 +43,20 @@ returns c =
     sym (stands-apart (a .list .now) (a .store .now) (a .at) (c .before .before .before .before .loop .i) (c .before .before .before .loop-test .taken) (c .if2 .taken))
 
 add-i : tie.Need-add-i Inv-loop μ-loop
-add-i c = search needs
+add-i c = next-fits (c .before .before .before .loop-test .taken) (c .before .before .before .before .before .before .good .0 .1)
 
 loop-less : tie.Need-loop-less Inv-loop μ-loop
-loop-less c = search needs
+loop-less c = falls _ _ (c .before .before .before .loop-test .taken)
 
 loop-again : tie.Need-loop-again Inv-loop μ-loop
-loop-again c = (search needs, search needs, below-more _ _ (c .before .before .before .before .loop .inv .2) (c .if2 .left))
+loop-again c = (next-le _ _ (c .before .before .before .loop-test .taken), c .before .before .before .before .loop .inv .1, below-more _ _ (c .before .before .before .before .loop .inv .2) (c .if2 .left))
 
 returns-2 : tie.Need-returns-2 Inv-loop μ-loop
 returns-2 c =
     let (high, room, each) = c .before .loop .inv in
     let a = c .before .before .before .args in
     let all : (i : ℕ) → i < length (a .list .now) → getD (a .store .now) (a .at + i) 0 ≡ getD (a .list .now) i 0 = λ i h.
-    each i (omega arith) in
+    each i (lt-of-lt-of-le h (c .loop-test .left)) in
     sym (stands-whole (a .list .now) (a .store .now) (a .at) room all)
 
 returns-3 : tie.Need-returns-3 Inv-loop μ-loop

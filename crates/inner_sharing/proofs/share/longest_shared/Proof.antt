@@ -1,18 +1,20 @@
 -- `longest_shared` meets its contract: every length above t is ruled out by a number that differs, and where none differs t is the overlap.
-use mathlib.Core.Path.{_≡_, sym, _∙_}
+use mathlib.Core.Path.{_≡_, refl, sym, _∙_}
 use mathlib.Core.Logic.{⊎-elim}
 use mathlib.Core.List.{List}
-use Prim.Native.Nat.{ℕ, _+_, _≤_, _<_, _-_}
+use Prim.Native.Nat.{ℕ, _+_, _≤_, _<_, _-_, zero-le}
+use native.Mathlib.Nat.{le-of-lt}
 use native.Mathlib.Omega.{arith}
 use lib.Dec.{ltb}
 use lib.ListN.{length, take, drop, getD, length-drop}
 use lib.Seq.{ext-getD, getD-drop, getD-take, length-take-le}
-use borrow.Author.Count.{below-none, below-more}
-use borrow.Author.Needs.{needs}
+use borrow.Author.Count.{falls, below-none, below-more}
+use borrow.Author.Needs.{needs, scaled-fits}
 use borrow.Author.Tests.{ltb-true, ltb-false}
 use Rattle.lists.specs.Sets.{overlap}
 use Rattle.lists.proofs.Members.{by-test}
 use Rattle.lists.proofs.Overlap.{overlap-is}
+use Rattle.lists.proofs.Small.{next-le, next-fits, end-fits}
 use Rattle.inner_sharing.proofs.share.longest_shared.Statement.{statement}
 use Rattle.inner_sharing.proofs.share.longest_shared.Tie as tie
 
@@ -57,6 +59,13 @@ module _ (last new : List ℕ) (t i : ℕ) (reached : Reached last new t) where
 nothing-shared : (last new : List ℕ) (t : ℕ) → Reached last new t → t ≡ 0 → 0 ≡ overlap last new
 nothing-shared last new t reached e = sym e ∙ found last new t 0 reached (omega arith) (below-none _)
 
+-- where the code reads, with t as the loop has it
+in-last : (n t t₀ i : ℕ) → t ≡ t₀ → i < t → t₀ ≤ n → n - t₀ + i < n
+in-last n t t₀ i same l high = omega arith
+
+in-new : (n t t₀ i : ℕ) → t ≡ t₀ → i < t → t₀ ≤ n → i < n
+in-new n t t₀ i same l high = omega arith
+
 abbrev Inv-loop : tie.InvT-loop
 Inv-loop last new t₀ from i₀ t i = (t ≡ t₀) × (i ≤ t) × ((k : ℕ) → k < i → getD last (from + k) 0 ≡ getD new k 0)
 
@@ -77,26 +86,27 @@ shorter-holds c =
     (c .if1 .came)
 
 sub-from : tie.Need-sub-from Inv-loop μ-loop Inv-shorter μ-shorter
-sub-from c = search needs
+sub-from c = c .before .before .shorter .inv .left
 
 loop-holds : tie.Need-loop-holds Inv-loop μ-loop Inv-shorter μ-shorter
-loop-holds c = (search needs, search needs, below-none _)
+loop-holds c = (refl, zero-le, below-none _)
 
 add-if2 : tie.Need-add-if2 Inv-loop μ-loop Inv-shorter μ-shorter
-add-if2 c = search needs
+add-if2 c = end-fits (le-of-lt (in-last _ _ _ _ (c .before .loop .inv .0) (c .loop-test .taken) (c .before .before .before .before .shorter .inv .left))) (c .before .before .before .before .before .before .good .0 .1)
 
 mul-if2 : tie.Need-mul-if2 Inv-loop μ-loop Inv-shorter μ-shorter
-mul-if2 c = search needs
+mul-if2 c = scaled-fits _ _ _ (in-last _ _ _ _ (c .before .loop .inv .0) (c .loop-test .taken) (c .before .before .before .before .shorter .inv .left)) (c .before .before .before .before .before .before .good .0 .1)
 
 shared-slice-read-if2 : tie.Need-shared-slice-read-if2 Inv-loop μ-loop Inv-shorter μ-shorter
-shared-slice-read-if2 c = search needs
+shared-slice-read-if2 c = in-last _ _ _ _ (c .before .before .loop .inv .0) (c .before .loop-test .taken) (c .before .before .before .before .before .shorter .inv .left)
 
 mul-if2-2 : tie.Need-mul-if2-2 Inv-loop μ-loop Inv-shorter μ-shorter
-mul-if2-2 c = search needs
+mul-if2-2 c = scaled-fits _ _ _ (in-new _ _ _ _ (c .before .before .loop .inv .0) (c .before .loop-test .taken) (c .before .before .before .before .before .shorter .inv .right)) (c .before .before .before .before .before .before .before .good .1 .0 .1)
 
 shared-slice-read-if2-2 : tie.Need-shared-slice-read-if2-2 Inv-loop μ-loop Inv-shorter μ-shorter
-shared-slice-read-if2-2 c = search needs
+shared-slice-read-if2-2 c = in-new _ _ _ _ (c .before .before .before .loop .inv .0) (c .before .before .loop-test .taken) (c .before .before .before .before .before .before .shorter .inv .right)
 
+-- these two by arithmetic, whatever is taken from t: code that takes more is refused for the lengths that it leaves out
 sub-t : tie.Need-sub-t Inv-loop μ-loop Inv-shorter μ-shorter
 sub-t c = search needs
 
@@ -109,13 +119,13 @@ shorter-again c =
     rw (at .loop .inv .0) (one-shorter _ _ _ (at .loop .i) (at .before .before .before .shorter .inv) (omega arith) (c .before .if2 .taken))
 
 add-i : tie.Need-add-i Inv-loop μ-loop Inv-shorter μ-shorter
-add-i c = search needs
+add-i c = next-fits (in-new _ _ _ _ (c .before .before .before .before .loop .inv .0) (c .before .before .before .loop-test .taken) (c .before .before .before .before .before .before .before .shorter .inv .right)) (c .before .before .before .before .before .before .before .before .before .good .1 .0 .1)
 
 loop-less : tie.Need-loop-less Inv-loop μ-loop Inv-shorter μ-shorter
-loop-less c = search needs
+loop-less c = falls _ _ (c .before .before .before .loop-test .taken)
 
 loop-again : tie.Need-loop-again Inv-loop μ-loop Inv-shorter μ-shorter
-loop-again c = (search needs, search needs, below-more _ _ (c .before .before .before .before .loop .inv .2) (c .if2 .left))
+loop-again c = (c .before .before .before .before .loop .inv .0, next-le _ _ (c .before .before .before .loop-test .taken), below-more _ _ (c .before .before .before .before .loop .inv .2) (c .if2 .left))
 
 returns : tie.Need-returns Inv-loop μ-loop Inv-shorter μ-shorter
 returns c =

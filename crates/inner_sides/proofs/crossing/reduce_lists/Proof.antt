@@ -5,7 +5,7 @@ use native.Mathlib.Nat.{le-refl, le-of-eq}
 use lib.Ieee.{ofBits}
 use lib.ListN.{length, getD}
 use Rattle.inner_sides.proofs.Lending.{Lendable, lendable}
-use Rattle.inner_slots.proofs.Small.{least, less, next-le, short-of, still-inside, still-below, room-same, end-fits, place-fits, index-fits, next-fits}
+use Rattle.lists.proofs.Small.{least, less, next-le, short-of, still-inside, still-below, room-same, end-fits, place-fits, index-fits, next-fits}
 use Rattle.inner_sides.specs.Heads.{HeadsAsk}
 use Rattle.inner_sides.proofs.Heads.{Partly, Under, under-start, under-next, under-at, partly-start, partly-zero, partly-none, partly-turn, partly-end, asked, head-numbers, cell-fits, values-length}
 use Rattle.foundation.specs.Numbers.{isZero, plusZero}

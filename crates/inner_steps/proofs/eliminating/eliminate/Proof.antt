@@ -1,7 +1,7 @@
 -- `eliminate` meets its contract: the column, then U, then L.
 use mathlib.Core.Path.{_∙_}
 use Rattle.inner_sides.proofs.Lending.{Lendable, lendable}
-use Rattle.inner_slots.proofs.Small.{still-inside}
+use Rattle.lists.proofs.Small.{still-inside}
 use Rattle.inner_steps.proofs.Elimination.{lower-numbers, upper-numbers, column-asks, upper-asks, lower-asks, elim-leaves}
 use Rattle.inner_steps.proofs.eliminating.eliminate.Statement.{statement}
 use Rattle.inner_steps.proofs.eliminating.eliminate.Tie as tie

@@ -1,6 +1,11 @@
 -- `step_reads` meets its contract: what is counted and what the steps to come will add is the whole; the steps fall, so the walk ends.
+use Prim.Native.Nat.{ℕ, _+_, _<_}
+use native.Mathlib.Nat.{add-assoc, pos-of-ne-zero}
 use native.Mathlib.Omega.{arith}
-use borrow.Author.Needs.{needs}
+use mir.Syntax.{w64}
+use mir.Val.{Fits}
+use borrow.Author.Needs.{scaled-fits}
+use Rattle.lists.proofs.Small.{before-fits, before-below}
 use Rattle.inner_stores.proofs.Chaining.{StepsLeft, StepsTurn, steps-left, steps-left-turn, walk-end}
 use Rattle.inner_stores.proofs.chains.step_reads.Statement.{statement}
 use Rattle.inner_stores.proofs.chains.step_reads.Tie as tie
@@ -17,59 +22,63 @@ turn : (c : tie.In-loop Inv-loop μ-loop)
     (c .before .loop .reads) (c .before .loop .l)
 turn c = steps-left-turn _ _ _ _ _ _ (c .loop-test .taken) (c .before .loop .inv)
 
+-- the sums of a turn are parts of its last one
+sums-fit : (done a b : ℕ) → done + (a + 1 + (b + 1)) < 4294967296 → Fits w64 (a + 1) × Fits w64 (done + (a + 1)) × Fits w64 (b + 1) × Fits w64 (done + (a + 1) + (b + 1))
+sums-fit done a b small = (record { fits = omega arith }, record { fits = omega arith }, record { fits = omega arith }, record { fits = omega arith })
+
 loop-holds : tie.Need-loop-holds Inv-loop μ-loop
 loop-holds c = steps-left _ _ _ _ (c .pre .0) (c .pre .1)
 
 mul-reads : tie.Need-mul-reads Inv-loop μ-loop
-mul-reads c = omega (arith, turn c)
+mul-reads c = scaled-fits _ _ _ (turn (c) .in-lowers) (c .before .before .good .1 .1 .0 .1)
 
 shared-slice-read-reads : tie.Need-shared-slice-read-reads Inv-loop μ-loop
 shared-slice-read-reads c = turn (c .before) .in-lowers
 
 sub-reads : tie.Need-sub-reads Inv-loop μ-loop
-sub-reads c = search needs
+sub-reads c = pos-of-ne-zero (c .before .loop-test .taken)
 
 mul-reads-2 : tie.Need-mul-reads-2 Inv-loop μ-loop
-mul-reads-2 c = omega (arith, turn (c .before))
+mul-reads-2 c = before-fits (turn (c .before) .in-lowers) (c .before .before .before .good .1 .1 .0 .1)
 
 shared-slice-read-reads-2 : tie.Need-shared-slice-read-reads-2 Inv-loop μ-loop
-shared-slice-read-reads-2 c = omega (arith, turn (c .before .before))
+shared-slice-read-reads-2 c = before-below (turn (c .before .before) .in-lowers)
 
 sub-reads-2 : tie.Need-sub-reads-2 Inv-loop μ-loop
 sub-reads-2 c = turn (c .before .before) .lowers-rise
 
 add-reads : tie.Need-add-reads Inv-loop μ-loop
-add-reads c = omega (arith, turn (c .before .before))
+add-reads c = sums-fit _ _ _ (turn (c .before .before) .small) .0
 
 add-reads-2 : tie.Need-add-reads-2 Inv-loop μ-loop
-add-reads-2 c = omega (arith, turn (c .before .before))
+add-reads-2 c = sums-fit _ _ _ (turn (c .before .before) .small) .1
 
 mul-reads-3 : tie.Need-mul-reads-3 Inv-loop μ-loop
-mul-reads-3 c = omega (arith, turn (c .before .before))
+mul-reads-3 c = scaled-fits _ _ _ (turn (c .before .before) .in-uppers) (c .before .before .before .before .good .1 .1 .1 .0 .1)
 
 shared-slice-read-reads-3 : tie.Need-shared-slice-read-reads-3 Inv-loop μ-loop
 shared-slice-read-reads-3 c = turn (c .before .before .before) .in-uppers
 
 sub-reads-3 : tie.Need-sub-reads-3 Inv-loop μ-loop
-sub-reads-3 c = search needs
+sub-reads-3 c = pos-of-ne-zero (c .before .before .before .loop-test .taken)
 
 mul-reads-4 : tie.Need-mul-reads-4 Inv-loop μ-loop
-mul-reads-4 c = omega (arith, turn (c .before .before .before))
+mul-reads-4 c = before-fits (turn (c .before .before .before) .in-uppers) (c .before .before .before .before .before .good .1 .1 .1 .0 .1)
 
 shared-slice-read-reads-4 : tie.Need-shared-slice-read-reads-4 Inv-loop μ-loop
-shared-slice-read-reads-4 c = omega (arith, turn (c .before .before .before .before))
+shared-slice-read-reads-4 c = before-below (turn (c .before .before .before .before) .in-uppers)
 
 sub-reads-4 : tie.Need-sub-reads-4 Inv-loop μ-loop
 sub-reads-4 c = turn (c .before .before .before .before) .uppers-rise
 
 add-reads-3 : tie.Need-add-reads-3 Inv-loop μ-loop
-add-reads-3 c = omega (arith, turn (c .before .before .before .before))
+add-reads-3 c = sums-fit _ _ _ (turn (c .before .before .before .before) .small) .2
 
 add-reads-4 : tie.Need-add-reads-4 Inv-loop μ-loop
-add-reads-4 c = omega (arith, turn (c .before .before .before .before))
+add-reads-4 c = sums-fit _ _ _ (turn (c .before .before .before .before) .small) .3
 
 mul-l : tie.Need-mul-l Inv-loop μ-loop
-mul-l c = omega (arith, turn (c .before .before .before .before))
+mul-l c = scaled-fits _ _ _ (turn (c .before .before .before .before) .in-links) (c .before .before .before .before .before .before .good .1 .0 .1)
 
 shared-slice-read-l : tie.Need-shared-slice-read-l Inv-loop μ-loop
 shared-slice-read-l c = turn (c .before .before .before .before .before) .in-links
@@ -78,10 +87,10 @@ loop-less : tie.Need-loop-less Inv-loop μ-loop
 loop-less c = turn (c .before .before .before .before .before) .less
 
 loop-again : tie.Need-loop-again Inv-loop μ-loop
-loop-again c = turn (c .before .before .before .before .before) .left _ (omega arith)
+loop-again c = turn (c .before .before .before .before .before) .left _ (add-assoc _ _ _)
 
 returns : tie.Need-returns Inv-loop μ-loop
-returns c = walk-end _ _ _ _ _ _ (search needs) (c .before .loop .inv .walked)
+returns c = walk-end _ _ _ _ _ _ (c .loop-test .left) (c .before .loop .inv .walked)
 
 pub step-reads-spec : {M : Type 1} → statement M
 step-reads-spec =

@@ -7,11 +7,11 @@ use native.Mathlib.Nat.{le-refl}
 use native.Mathlib.Omega.{arith}
 use lib.ListN.{length, take, drop, length-append, length-drop}
 use lib.Seq.{take-all, drop-length, length-take-le}
-use borrow.Author.Needs.{needs}
 use Rattle.lists.specs.Sets.{union}
 use Rattle.lists.proofs.Members.{union-nil-left, union-nil-right}
 use Rattle.inner_stores.specs.Merging.{MergedTo}
 use Rattle.inner_stores.proofs.Filling.{appended}
+use Rattle.lists.proofs.Small.{place-fits}
 use Rattle.inner_stores.proofs.unions.merge.Statement.{statement}
 use Rattle.inner_stores.proofs.unions.merge.Tie as tie
 
@@ -57,19 +57,19 @@ module _ (have more before now : List ℕ) (a b count : ℕ) (m : MergedTo have 
         (sym (length-take-le r now₂ (omega (arith, s .0))) ∙ ap length e, e)
 
 merge-both-requires : tie.Need-merge-both-requires
-merge-both-requires c κs = search needs
+merge-both-requires c κs = c .before .before .before .before .pre
 
 mul-append : tie.Need-mul-append
-mul-append c = search needs
+mul-append c = place-fits (c .before .before .merge-both .ensures .first) (c .before .before .before .before .before .before .before .good .0 .1)
 
 sub-append : tie.Need-sub-append
-sub-append c = search needs
+sub-append c = c .before .before .merge-both .ensures .first
 
 part-append-start : tie.Need-part-append-start
-part-append-start c = search needs
+part-append-start c = c .before .before .merge-both .ensures .first
 
 part-append-end : tie.Need-part-append-end
-part-append-end c = search needs
+part-append-end c = le-refl _
 
 append-requires : tie.Need-append-requires
 append-requires c κs =
@@ -78,16 +78,16 @@ append-requires c κs =
     first-fits (s .args .have .now) (s .args .more .now) _ _ _ _ _ (m .merge-both .ensures)
 
 mul-append-2 : tie.Need-mul-append-2
-mul-append-2 c = search needs
+mul-append-2 c = place-fits (c .before .before .before .before .before .before .before .merge-both .ensures .second) (c .before .before .before .before .before .before .before .before .before .before .before .before .good .1 .0 .1)
 
 sub-append-2 : tie.Need-sub-append-2
-sub-append-2 c = search needs
+sub-append-2 c = c .before .before .before .before .before .before .before .merge-both .ensures .second
 
 part-append-start-2 : tie.Need-part-append-start-2
-part-append-start-2 c = search needs
+part-append-start-2 c = c .before .before .before .before .before .before .before .merge-both .ensures .second
 
 part-append-end-2 : tie.Need-part-append-end-2
-part-append-end-2 c = search needs
+part-append-end-2 c = le-refl _
 
 append-requires-2 : tie.Need-append-requires-2
 append-requires-2 c κs =
@@ -97,7 +97,7 @@ append-requires-2 c κs =
     second-fits (s .args .have .now) (s .args .more .now) _ _ _ _ _ (m .merge-both .ensures) (f .append .last .1 .0) _ (f .append .kept .1 .0) (f .append .ensures .0)
 
 same-length : tie.Need-same-length
-same-length c = search needs
+same-length c = c .before .before .append2 .kept .1 .0 ∙ c .before .before .before .before .before .before .before .append .kept .1 .0 ∙ c .before .before .before .before .before .before .before .before .before .before .before .before .merge-both .kept .1 .1 .0
 
 returns : tie.Need-returns
 returns c =

@@ -3,19 +3,20 @@
 use mathlib.Core.Path.{_≡_}
 use mathlib.Core.Logic.{inl, inr}
 use mathlib.Core.List.{List, [], _∷_}
-use Prim.Native.Nat.{ℕ, suc, _+_, _≤_, _<_, _-_}
-use native.Mathlib.Nat.{zero-add}
+use Prim.Native.Nat.{ℕ, suc, _+_, _≤_, _<_, _-_, _*_, _^_, zero-le}
+use native.Mathlib.Nat.{zero-add, le-antisymm}
 use native.Mathlib.Numerals.{add-one}
 use native.Mathlib.Omega.{arith}
 use lib.Dec.{eqb, ltb}
 use lib.ListN.{length, drop, getD}
 use lib.Seq.{drop-cons}
-use borrow.Author.Needs.{needs}
+use borrow.Author.Needs.{scaled-fits}
 use borrow.Author.Tests.{ltb-true, ltb-false}
 use Rattle.lists.specs.Sets.{mergeOne, union}
 use Rattle.lists.proofs.Members.{by-test, union-less, union-more, union-equal}
 use Rattle.inner_stores.specs.Filling.{Filling}
 use Rattle.inner_stores.proofs.Filling.{fill-start, fill-room, fill-turn}
+use Rattle.lists.proofs.Small.{next-le, next-fits, room-same}
 use Rattle.inner_stores.proofs.unions.merge_both.Statement.{statement}
 use Rattle.inner_stores.proofs.unions.merge_both.Tie as tie
 
@@ -46,6 +47,16 @@ module _ (xs ys : List ℕ) (a b : ℕ) (p : a < length xs) (q : b < length ys) 
   rest-equal : getD xs a 0 ≡ getD ys b 0 → union (drop a xs) (drop b ys) ≡ getD xs a 0 ∷ union (drop (a + 1) xs) (drop (b + 1) ys)
   rest-equal h = rw (add-one a, add-one b, drop-cons xs a 0, drop-cons ys b 0) (union-equal _ _ _ _ h)
 
+-- a turn passes a member of one list or of both
+less-first : (m n a b : ℕ) → a < m → (m - (a + 1)) + (n - b) < (m - a) + (n - b)
+less-first m n a b l = omega arith
+
+less-second : (m n a b : ℕ) → b < n → (m - a) + (n - (b + 1)) < (m - a) + (n - b)
+less-second m n a b l = omega arith
+
+less-both : (m n a b : ℕ) → a < m → b < n → (m - (a + 1)) + (n - (b + 1)) < (m - a) + (n - b)
+less-both m n a b l k = omega arith
+
 -- in a turn the second list has members left, and the store a place
 second-left : (c : tie.Then1 Inv-loop μ-loop) → c .before .before .loop .b < length (c .before .before .before .args .more .now)
 second-left c = ltb-true _ _ (c .if1 .taken)
@@ -56,120 +67,96 @@ place c =
     let t = c .before .before .before in
     fill-room _ _ _ _ _ (t .before .loop .inv .2) (rest-some _ _ _ (t .loop-test .taken))
 
+room : (c : tie.At-loop Inv-loop μ-loop) → length (c .loop .out) * 8 < 2 ^ 63
+room c = room-same (c .loop .inv .2 .size) (c .before .good .1 .1 .0 .1)
+
 loop-holds : tie.Need-loop-holds Inv-loop μ-loop
-loop-holds c = (search needs, search needs, fill-start _ _ _ (rw zero-add (c .pre)))
+loop-holds c = (zero-le, zero-le, fill-start _ _ _ (rw zero-add (c .pre)))
 
 mul-x : tie.Need-mul-x Inv-loop μ-loop
-mul-x c = search needs
+mul-x c = scaled-fits _ _ _ (c .before .loop-test .taken) (c .before .before .before .good .0 .1)
 
 shared-slice-read-x : tie.Need-shared-slice-read-x Inv-loop μ-loop
-shared-slice-read-x c = search needs
+shared-slice-read-x c = c .before .before .loop-test .taken
 
 mul-y : tie.Need-mul-y Inv-loop μ-loop
-mul-y c =
-    let h = second-left (c .before) in search needs
+mul-y c = scaled-fits _ _ _ (second-left (c .before)) (c .before .before .before .before .good .1 .0 .1)
 
 shared-slice-read-y : tie.Need-shared-slice-read-y Inv-loop μ-loop
-shared-slice-read-y c =
-    let h = second-left (c .before .before) in search needs
+shared-slice-read-y c = second-left (c .before .before)
 
 mul-out : tie.Need-mul-out Inv-loop μ-loop
-mul-out c =
-    let h = place (c .before) in search needs
+mul-out c = scaled-fits _ _ _ (place (c .before)) (room (c .before .before .before .before .before))
 
 slice-write-out : tie.Need-slice-write-out Inv-loop μ-loop
-slice-write-out c =
-    let h = place (c .before) in search needs
+slice-write-out c = place (c .before)
 
 add-a : tie.Need-add-a Inv-loop μ-loop
-add-a c = search needs
+add-a c = next-fits (c .before .before .before .before .loop-test .taken) (c .before .before .before .before .before .before .good .0 .1)
 
 add-count : tie.Need-add-count Inv-loop μ-loop
-add-count c =
-    let h = place (c .before) in search needs
+add-count c = next-fits (place (c .before)) (room (c .before .before .before .before .before))
 
 loop-less : tie.Need-loop-less Inv-loop μ-loop
-loop-less c = search needs
+loop-less c = less-first _ _ _ _ (c .before .before .before .before .loop-test .taken)
 
 loop-again : tie.Need-loop-again Inv-loop μ-loop
-loop-again c =
-    let t = c .before .before .before in
-    let h = second-left t in
-    let i = t .before .before .loop .inv .2 in
-    (search needs, search needs, fill-turn _ _ _ _ _ i _ _ (rest-less _ _ _ _ (t .before .loop-test .taken) h (omega arith)))
+loop-again c = (next-le _ _ (c .before .before .before .before .loop-test .taken), c .before .before .before .before .before .loop .inv .1, fill-turn _ _ _ _ _ (c .before .before .before .before .before .loop .inv .2) _ _ (rest-less _ _ _ _ (c .before .before .before .before .loop-test .taken) (second-left (c .before .before .before)) (c .if2 .taken)))
 
 mul-out-2 : tie.Need-mul-out-2 Inv-loop μ-loop
-mul-out-2 c =
-    let h = place (c .before .before) in search needs
+mul-out-2 c = scaled-fits _ _ _ (place (c .before .before)) (room (c .before .before .before .before .before .before))
 
 slice-write-out-2 : tie.Need-slice-write-out-2 Inv-loop μ-loop
-slice-write-out-2 c =
-    let h = place (c .before .before) in search needs
+slice-write-out-2 c = place (c .before .before)
 
 add-b : tie.Need-add-b Inv-loop μ-loop
-add-b c =
-    let h = second-left (c .before .before .before .before) in search needs
+add-b c = next-fits (second-left (c .before .before .before .before)) (c .before .before .before .before .before .before .before .good .1 .0 .1)
 
 add-count-2 : tie.Need-add-count-2 Inv-loop μ-loop
-add-count-2 c =
-    let h = place (c .before .before) in search needs
+add-count-2 c = next-fits (place (c .before .before)) (room (c .before .before .before .before .before .before))
 
 loop-less-2 : tie.Need-loop-less-2 Inv-loop μ-loop
-loop-less-2 c =
-    let h = second-left (c .before .before .before .before) in search needs
+loop-less-2 c = less-second _ _ _ _ (second-left (c .before .before .before .before))
 
 loop-again-2 : tie.Need-loop-again-2 Inv-loop μ-loop
-loop-again-2 c =
-    let t = c .before .before .before .before in
-    let h = second-left t in
-    let i = t .before .before .loop .inv .2 in
-    (search needs, search needs, fill-turn _ _ _ _ _ i _ _ (rest-more _ _ _ _ (t .before .loop-test .taken) h (omega arith)))
+loop-again-2 c = (c .before .before .before .before .before .before .loop .inv .0, next-le _ _ (second-left (c .before .before .before .before)), fill-turn _ _ _ _ _ (c .before .before .before .before .before .before .loop .inv .2) _ _ (rest-more _ _ _ _ (c .before .before .before .before .before .loop-test .taken) (second-left (c .before .before .before .before)) (c .if3 .taken)))
 
 mul-out-3 : tie.Need-mul-out-3 Inv-loop μ-loop
-mul-out-3 c =
-    let h = place (c .before .before) in search needs
+mul-out-3 c = scaled-fits _ _ _ (place (c .before .before)) (room (c .before .before .before .before .before .before))
 
 slice-write-out-3 : tie.Need-slice-write-out-3 Inv-loop μ-loop
-slice-write-out-3 c =
-    let h = place (c .before .before) in search needs
+slice-write-out-3 c = place (c .before .before)
 
 add-a-2 : tie.Need-add-a-2 Inv-loop μ-loop
-add-a-2 c = search needs
+add-a-2 c = next-fits (c .before .before .before .before .before .loop-test .taken) (c .before .before .before .before .before .before .before .good .0 .1)
 
 add-b-2 : tie.Need-add-b-2 Inv-loop μ-loop
-add-b-2 c =
-    let h = second-left (c .before .before .before .before) in search needs
+add-b-2 c = next-fits (second-left (c .before .before .before .before)) (c .before .before .before .before .before .before .before .good .1 .0 .1)
 
 add-count-3 : tie.Need-add-count-3 Inv-loop μ-loop
-add-count-3 c =
-    let h = place (c .before .before) in search needs
+add-count-3 c = next-fits (place (c .before .before)) (room (c .before .before .before .before .before .before))
 
 loop-less-3 : tie.Need-loop-less-3 Inv-loop μ-loop
-loop-less-3 c =
-    let h = second-left (c .before .before .before .before) in search needs
+loop-less-3 c = less-both _ _ _ _ (c .before .before .before .before .before .loop-test .taken) (second-left (c .before .before .before .before))
 
 loop-again-3 : tie.Need-loop-again-3 Inv-loop μ-loop
-loop-again-3 c =
-    let t = c .before .before .before .before in
-    let h = second-left t in
-    let i = t .before .before .loop .inv .2 in
-    (search needs, search needs, fill-turn _ _ _ _ _ i _ _ (rest-equal _ _ _ _ (t .before .loop-test .taken) h (omega arith)))
+loop-again-3 c = (next-le _ _ (c .before .before .before .before .before .loop-test .taken), next-le _ _ (second-left (c .before .before .before .before)), fill-turn _ _ _ _ _ (c .before .before .before .before .before .before .loop .inv .2) _ _ (rest-equal _ _ _ _ (c .before .before .before .before .before .loop-test .taken) (second-left (c .before .before .before .before)) (le-antisymm (c .if3 .left) (c .before .if2 .left))))
 
 same-length : tie.Need-same-length Inv-loop μ-loop
-same-length c = search needs
+same-length c = c .before .before .loop .inv .2 .size
 
 returns : tie.Need-returns Inv-loop μ-loop
 returns c =
     let i = c .before .before .loop .inv in
-    record { first = i .0; second = i .1; filling = i .2; ended = inr (omega (arith, ltb-false)) }
+    record { first = i .0; second = i .1; filling = i .2; ended = inr (le-antisymm (i .1) (ltb-false _ _ (c .if1 .left))) }
 
 same-length-2 : tie.Need-same-length-2 Inv-loop μ-loop
-same-length-2 c = search needs
+same-length-2 c = c .before .loop .inv .2 .size
 
 returns-2 : tie.Need-returns-2 Inv-loop μ-loop
 returns-2 c =
     let i = c .before .loop .inv in
-    record { first = i .0; second = i .1; filling = i .2; ended = inl (omega arith) }
+    record { first = i .0; second = i .1; filling = i .2; ended = inl (le-antisymm (i .0) (c .loop-test .left)) }
 
 pub merge-both-spec : {M : Type 1} → statement M
 merge-both-spec =

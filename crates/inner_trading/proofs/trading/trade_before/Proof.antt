@@ -1,12 +1,11 @@
 -- `trade_before` meets its contract: the loop's invariant is that the columns before place t are exchanged; p is not passed.
-use Prim.Native.Nat.{_≤_, _<_, _-_}
+use Prim.Native.Nat.{_≤_, _<_, _+_, _-_, _*_, _^_}
 use mathlib.Core.Path.{_≡_, refl}
-use native.Mathlib.Omega.{arith}
+use native.Mathlib.Nat.{lt-of-le-of-lt}
 use lib.ListN.{length, length-set}
-use borrow.Author.Needs.{needs}
 use Rattle.lists.specs.Sets.{indexOf}
 use Rattle.inner_trading.specs.Trading.{Traded, BeforeAsks}
-use Rattle.inner_slots.proofs.Small.{next-le}
+use Rattle.lists.proofs.Small.{least, less, next-le, room-same, below-fits, index-fits, next-fits}
 use Rattle.inner_trading.proofs.Walks.{p-inside, nearer, before-asks, before-own, before-other, before-turn}
 use Rattle.inner_trading.proofs.trading.trade_before.Statement.{statement}
 use Rattle.inner_trading.proofs.trading.trade_before.Tie as tie
@@ -19,22 +18,38 @@ Inv-loop us first p cell l-subs l-starts l-slots l₀ u₀ t₀ l u t =
 abbrev μ-loop : tie.MeasureT-loop
 μ-loop us first p cell l-subs l-starts l-slots l₀ u₀ t₀ l u t = length us - t
 
+-- the column at hand, and the slots of the two rows in it
+inside : (c : tie.At-loop Inv-loop μ-loop) → c .loop .t < length (c .before .before .before .before .before .before .before .args .us .now)
+inside c = lt-of-le-of-lt (c .loop .inv .0) (c .loop .inv .1)
+
+l-room : (c : tie.At-loop Inv-loop μ-loop) → length (c .loop .l) * 8 < 2 ^ 63
+l-room c = room-same (c .loop .inv .2) (c .before .before .before .before .before .before .before .good .1 .1 .1 .1 .1 .1 .1 .0 .1)
+
+u-room : (c : tie.At-loop Inv-loop μ-loop) → length (c .loop .u) * 8 < 2 ^ 63
+u-room c = room-same (c .loop .inv .3) (c .before .before .before .before .before .before .before .good .1 .1 .1 .1 .1 .1 .1 .1 .0 .1)
+
+mine : (c : tie.Then1 Inv-loop μ-loop) → c .before .before .before .before .before .before .before .before .before .args .first .0 + c .before .before .loop .t < length (c .before .before .loop .u)
+mine c = before-own _ _ _ _ _ _ _ _ (c .before .before .before .before .before .before .before .before .before .pre) _ _ _ (c .before .before .loop .inv .4 (c .before .before .before .before .before .before .before .before .before .pre)) (c .before .before .loop .inv .0) (c .if1 .taken)
+
+other : (c : tie.After-slot-of Inv-loop μ-loop) → c .slot-of .result .0 < length (c .before .before .before .before .loop .l)
+other c = before-other _ _ _ _ _ _ _ _ (c .before .before .before .before .before .before .before .before .before .before .before .pre) _ _ _ (c .before .before .before .before .loop .inv .4 (c .before .before .before .before .before .before .before .before .before .before .before .pre)) (c .before .before .before .before .loop .inv .0) (c .before .before .if1 .taken) _ (c .slot-of .ensures)
+
 loop-holds : tie.Need-loop-holds Inv-loop μ-loop
 loop-holds c =
     let g = c .before .before .before .before .before .before in
-    (omega arith, p-inside _ _ _ _ _ _ _ _ (g .pre), refl, refl, λ w. w .traded)
+    (least _, p-inside _ _ _ _ _ _ _ _ (g .pre), refl, refl, λ w. w .traded)
 
 mul-if1 : tie.Need-mul-if1 Inv-loop μ-loop
-mul-if1 c = search needs
+mul-if1 c = index-fits (inside c) (c .before .before .before .before .before .before .before .good .0 .1)
 
 shared-slice-read-if1 : tie.Need-shared-slice-read-if1 Inv-loop μ-loop
-shared-slice-read-if1 c = search needs
+shared-slice-read-if1 c = inside (c .before)
 
 mul-slot-of : tie.Need-mul-slot-of Inv-loop μ-loop
-mul-slot-of c = search needs
+mul-slot-of c = index-fits (inside (c .before .before)) (c .before .before .before .before .before .before .before .before .before .good .0 .1)
 
 shared-slice-read-slot-of : tie.Need-shared-slice-read-slot-of Inv-loop μ-loop
-shared-slice-read-slot-of c = search needs
+shared-slice-read-slot-of c = inside (c .before .before .before)
 
 slot-of-requires : tie.Need-slot-of-requires Inv-loop μ-loop
 slot-of-requires c κs =
@@ -43,81 +58,37 @@ slot-of-requires c κs =
     before-asks _ _ _ _ _ _ _ _ (g .pre) _ _ _ (b .loop .inv .4 (g .pre)) (b .loop .inv .0) (c .before .if1 .taken)
 
 add-i : tie.Need-add-i Inv-loop μ-loop
-add-i c =
-    let g = c .before .before .before .before .before .before .before .before .before .before .before .before in
-    let b = c .before .before .before .before .before in
-    let f = before-own _ _ _ _ _ _ _ _ (g .pre) _ _ _ (b .loop .inv .4 (g .pre)) (b .loop .inv .0) (c .before .before .before .if1 .taken) in
-    record { fits = omega (arith, f, b .loop .inv .3, g .good .1 .1 .1 .1 .1 .1 .1 .1 .0 .0) }
+add-i c = below-fits (mine (c .before .before .before)) (u-room (c .before .before .before .before .before))
 
 mul-v : tie.Need-mul-v Inv-loop μ-loop
-mul-v c =
-    let g = c .before .before .before .before .before .before .before .before .before .before .before .before in
-    let b = c .before .before .before .before .before in
-    let f = before-own _ _ _ _ _ _ _ _ (g .pre) _ _ _ (b .loop .inv .4 (g .pre)) (b .loop .inv .0) (c .before .before .before .if1 .taken) in
-    record { fits = omega (arith, f, b .loop .inv .3, g .good .1 .1 .1 .1 .1 .1 .1 .1 .0 .1) }
+mul-v c = index-fits (mine (c .before .before .before)) (u-room (c .before .before .before .before .before))
 
 slice-read-v : tie.Need-slice-read-v Inv-loop μ-loop
-slice-read-v c =
-    let g = c .before .before .before .before .before .before .before .before .before .before .before .before .before in
-    let b = c .before .before .before .before .before .before in
-    let f = before-own _ _ _ _ _ _ _ _ (g .pre) _ _ _ (b .loop .inv .4 (g .pre)) (b .loop .inv .0) (c .before .before .before .before .if1 .taken) in
-    f
+slice-read-v c = mine (c .before .before .before .before)
 
 mul-u : tie.Need-mul-u Inv-loop μ-loop
-mul-u c =
-    let g = c .before .before .before .before .before .before .before .before .before .before .before .before .before in
-    let b = c .before .before .before .before .before .before in
-    let f = before-other _ _ _ _ _ _ _ _ (g .pre) _ _ _ (b .loop .inv .4 (g .pre)) (b .loop .inv .0) (c .before .before .before .before .if1 .taken) _ (c .before .before .slot-of .ensures) in
-    record { fits = omega (arith, f, b .loop .inv .2, g .good .1 .1 .1 .1 .1 .1 .1 .0 .1) }
+mul-u c = index-fits (other (c .before .before)) (l-room (c .before .before .before .before .before .before))
 
 slice-read-u : tie.Need-slice-read-u Inv-loop μ-loop
-slice-read-u c =
-    let g = c .before .before .before .before .before .before .before .before .before .before .before .before .before .before in
-    let b = c .before .before .before .before .before .before .before in
-    let f = before-other _ _ _ _ _ _ _ _ (g .pre) _ _ _ (b .loop .inv .4 (g .pre)) (b .loop .inv .0) (c .before .before .before .before .before .if1 .taken) _ (c .before .before .before .slot-of .ensures) in
-    f
+slice-read-u c = other (c .before .before .before)
 
 mul-u-2 : tie.Need-mul-u-2 Inv-loop μ-loop
-mul-u-2 c =
-    let g = c .before .before .before .before .before .before .before .before .before .before .before .before .before .before in
-    let b = c .before .before .before .before .before .before .before in
-    let f = before-own _ _ _ _ _ _ _ _ (g .pre) _ _ _ (b .loop .inv .4 (g .pre)) (b .loop .inv .0) (c .before .before .before .before .before .if1 .taken) in
-    record { fits = omega (arith, f, b .loop .inv .3, g .good .1 .1 .1 .1 .1 .1 .1 .1 .0 .1) }
+mul-u-2 c = index-fits (mine (c .before .before .before .before .before)) (u-room (c .before .before .before .before .before .before .before))
 
 slice-write-u : tie.Need-slice-write-u Inv-loop μ-loop
-slice-write-u c =
-    let g = c .before .before .before .before .before .before .before .before .before .before .before .before .before .before in
-    let b = c .before .before .before .before .before .before .before in
-    let f = before-own _ _ _ _ _ _ _ _ (g .pre) _ _ _ (b .loop .inv .4 (g .pre)) (b .loop .inv .0) (c .before .before .before .before .before .if1 .taken) in
-    f
+slice-write-u c = mine (c .before .before .before .before .before)
 
 mul-l : tie.Need-mul-l Inv-loop μ-loop
-mul-l c =
-    let g = c .before .before .before .before .before .before .before .before .before .before .before .before .before .before in
-    let b = c .before .before .before .before .before .before .before in
-    let f = before-other _ _ _ _ _ _ _ _ (g .pre) _ _ _ (b .loop .inv .4 (g .pre)) (b .loop .inv .0) (c .before .before .before .before .before .if1 .taken) _ (c .before .before .before .slot-of .ensures) in
-    record { fits = omega (arith, f, b .loop .inv .2, g .good .1 .1 .1 .1 .1 .1 .1 .0 .1) }
+mul-l c = index-fits (other (c .before .before .before)) (l-room (c .before .before .before .before .before .before .before))
 
 slice-write-l : tie.Need-slice-write-l Inv-loop μ-loop
-slice-write-l c =
-    let g = c .before .before .before .before .before .before .before .before .before .before .before .before .before .before in
-    let b = c .before .before .before .before .before .before .before in
-    let f = before-other _ _ _ _ _ _ _ _ (g .pre) _ _ _ (b .loop .inv .4 (g .pre)) (b .loop .inv .0) (c .before .before .before .before .before .if1 .taken) _ (c .before .before .before .slot-of .ensures) in
-    f
+slice-write-l c = other (c .before .before .before)
 
 add-t : tie.Need-add-t Inv-loop μ-loop
-add-t c =
-    let g = c .before .before .before .before .before .before .before .before .before .before .before .before .before .before in
-    let b = c .before .before .before .before .before .before .before in
-    let f = nearer _ _ _ _ _ _ _ _ (g .pre) _ _ _ (b .loop .inv .4 (g .pre)) (b .loop .inv .0) (c .before .before .before .before .before .if1 .taken) in
-    search needs
+add-t c = next-fits (inside (c .before .before .before .before .before .before .before)) (c .before .before .before .before .before .before .before .before .before .before .before .before .before .before .good .0 .1)
 
 loop-less : tie.Need-loop-less Inv-loop μ-loop
-loop-less c =
-    let g = c .before .before .before .before .before .before .before .before .before .before .before .before .before .before in
-    let b = c .before .before .before .before .before .before .before in
-    let f = nearer _ _ _ _ _ _ _ _ (g .pre) _ _ _ (b .loop .inv .4 (g .pre)) (b .loop .inv .0) (c .before .before .before .before .before .if1 .taken) in
-    search needs
+loop-less c = less _ _ (inside (c .before .before .before .before .before .before .before))
 
 loop-again : tie.Need-loop-again Inv-loop μ-loop
 loop-again c =
@@ -140,7 +111,7 @@ same-length-2 c = c .before .before .loop .inv .3
 returns : tie.Need-returns Inv-loop μ-loop
 returns c =
     let b = c .before .before in
-    λ w. record { inside = omega (arith, b .loop .inv .0, b .loop .inv .1); at = c .if1 .left; traded = b .loop .inv .4 w }
+    λ w. record { inside = inside b; at = c .if1 .left; traded = b .loop .inv .4 w }
 
 pub trade-before-spec : {M : Type 1} → statement M
 trade-before-spec =

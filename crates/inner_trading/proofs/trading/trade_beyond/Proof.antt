@@ -1,11 +1,10 @@
 -- `trade_beyond` meets its contract: the loop's invariant is that the columns before place t are exchanged.
-use Prim.Native.Nat.{_≤_, _-_}
+use Prim.Native.Nat.{_≤_, _<_, _+_, _-_, _*_, _^_}
 use mathlib.Core.Path.{_≡_, refl}
-use native.Mathlib.Omega.{arith}
+use native.Mathlib.Nat.{le-refl, le-trans, le-add-left, le-add-right, lt-of-le-of-lt}
 use lib.ListN.{length, length-set}
-use borrow.Author.Needs.{needs}
 use Rattle.inner_trading.specs.Trading.{Traded, BeyondAsks}
-use Rattle.inner_slots.proofs.Small.{next-le}
+use Rattle.lists.proofs.Small.{less, next-le, room-same, below-fits, index-fits, next-fits}
 use Rattle.inner_trading.proofs.Walks.{own-ascends, beyond-own, beyond-other, beyond-turn, beyond-end}
 use Rattle.inner_trading.proofs.trading.trade_beyond.Statement.{statement}
 use Rattle.inner_trading.proofs.trading.trade_beyond.Tie as tie
@@ -18,109 +17,78 @@ Inv-loop us first from own second guess u₀ t₀ next₀ u t next =
 abbrev μ-loop : tie.MeasureT-loop
 μ-loop us first from own second guess u₀ t₀ next₀ u t next = length us - t
 
+-- the slots of the two rows in the column at hand
+abbrev entry : tie.In-loop Inv-loop μ-loop → tie.Start Inv-loop μ-loop
+entry c = c .before .before .before .before .before
+
+room : (c : tie.In-loop Inv-loop μ-loop) → length (c .before .loop .u) * 8 < 2 ^ 63
+room c = room-same (c .before .loop .inv .2) (entry c .good .1 .1 .1 .1 .1 .1 .0 .1)
+
+mine : (c : tie.In-loop Inv-loop μ-loop) → entry c .args .first .0 + c .before .loop .t < length (c .before .loop .u)
+mine c = beyond-own _ _ _ _ _ _ (entry c .pre) _ _ (c .before .loop .inv .3 (entry c .pre)) (c .before .loop .inv .0) (c .loop-test .taken)
+
+other : (c : tie.After-place-by Inv-loop μ-loop) → c .before .before .before .before .before .before .before .args .second .0 + c .place-by .result < length (c .before .before .before .loop .u)
+other c = beyond-other _ _ _ _ _ _ (c .before .before .before .before .before .before .before .pre) _ _ (c .before .before .before .loop .inv .3 (c .before .before .before .before .before .before .before .pre)) (c .before .before .before .loop .inv .0) (c .before .before .loop-test .taken) _ (c .place-by .ensures)
+
 loop-holds : tie.Need-loop-holds Inv-loop μ-loop
 loop-holds c =
     let g = c .before .before .before in
-    (omega arith, g .pre .within, refl, λ w. w .traded)
+    (le-refl _, g .pre .within, refl, λ w. w .traded)
 
 mul-place-by : tie.Need-mul-place-by Inv-loop μ-loop
-mul-place-by c = search needs
+mul-place-by c = index-fits (c .loop-test .taken) (c .before .before .before .before .before .good .0 .1)
 
 shared-slice-read-place-by : tie.Need-shared-slice-read-place-by Inv-loop μ-loop
-shared-slice-read-place-by c = search needs
+shared-slice-read-place-by c = c .before .loop-test .taken
 
 place-by-requires : tie.Need-place-by-requires Inv-loop μ-loop
 place-by-requires c κs = own-ascends _ _ _ _ _ _ (c .before .before .before .before .before .before .pre)
 
 add-i : tie.Need-add-i Inv-loop μ-loop
-add-i c =
-    let g = c .before .before .before .before .before .before .before .before in
-    let b = c .before .before .before .before in
-    let f = beyond-own _ _ _ _ _ _ (g .pre) _ _ (b .loop .inv .3 (g .pre)) (b .loop .inv .0) (c .before .before .before .loop-test .taken) in
-    record { fits = omega (arith, f, b .loop .inv .2, g .good .1 .1 .1 .1 .1 .1 .0 .0) }
+add-i c = below-fits (mine (c .before .before .before)) (room (c .before .before .before))
 
 add-j : tie.Need-add-j Inv-loop μ-loop
-add-j c =
-    let g = c .before .before .before .before .before .before .before .before .before in
-    let b = c .before .before .before .before .before in
-    let f = beyond-other _ _ _ _ _ _ (g .pre) _ _ (b .loop .inv .3 (g .pre)) (b .loop .inv .0) (c .before .before .before .before .loop-test .taken) _ (c .before .before .place-by .ensures) in
-    record { fits = omega (arith, f, b .loop .inv .2, g .good .1 .1 .1 .1 .1 .1 .0 .0) }
+add-j c = below-fits (other (c .before .before)) (room (c .before .before .before .before))
 
 mul-v : tie.Need-mul-v Inv-loop μ-loop
-mul-v c =
-    let g = c .before .before .before .before .before .before .before .before .before in
-    let b = c .before .before .before .before .before in
-    let f = beyond-own _ _ _ _ _ _ (g .pre) _ _ (b .loop .inv .3 (g .pre)) (b .loop .inv .0) (c .before .before .before .before .loop-test .taken) in
-    record { fits = omega (arith, f, b .loop .inv .2, g .good .1 .1 .1 .1 .1 .1 .0 .1) }
+mul-v c = index-fits (mine (c .before .before .before .before)) (room (c .before .before .before .before))
 
 slice-read-v : tie.Need-slice-read-v Inv-loop μ-loop
-slice-read-v c =
-    let g = c .before .before .before .before .before .before .before .before .before .before in
-    let b = c .before .before .before .before .before .before in
-    let f = beyond-own _ _ _ _ _ _ (g .pre) _ _ (b .loop .inv .3 (g .pre)) (b .loop .inv .0) (c .before .before .before .before .before .loop-test .taken) in
-    f
+slice-read-v c = mine (c .before .before .before .before .before)
 
 mul-u : tie.Need-mul-u Inv-loop μ-loop
-mul-u c =
-    let g = c .before .before .before .before .before .before .before .before .before .before in
-    let b = c .before .before .before .before .before .before in
-    let f = beyond-other _ _ _ _ _ _ (g .pre) _ _ (b .loop .inv .3 (g .pre)) (b .loop .inv .0) (c .before .before .before .before .before .loop-test .taken) _ (c .before .before .before .place-by .ensures) in
-    record { fits = omega (arith, f, b .loop .inv .2, g .good .1 .1 .1 .1 .1 .1 .0 .1) }
+mul-u c = index-fits (other (c .before .before .before)) (room (c .before .before .before .before .before))
 
 slice-read-u : tie.Need-slice-read-u Inv-loop μ-loop
-slice-read-u c =
-    let g = c .before .before .before .before .before .before .before .before .before .before .before in
-    let b = c .before .before .before .before .before .before .before in
-    let f = beyond-other _ _ _ _ _ _ (g .pre) _ _ (b .loop .inv .3 (g .pre)) (b .loop .inv .0) (c .before .before .before .before .before .before .loop-test .taken) _ (c .before .before .before .before .place-by .ensures) in
-    f
+slice-read-u c = other (c .before .before .before .before)
 
 mul-u-2 : tie.Need-mul-u-2 Inv-loop μ-loop
-mul-u-2 c =
-    let g = c .before .before .before .before .before .before .before .before .before .before .before in
-    let b = c .before .before .before .before .before .before .before in
-    let f = beyond-own _ _ _ _ _ _ (g .pre) _ _ (b .loop .inv .3 (g .pre)) (b .loop .inv .0) (c .before .before .before .before .before .before .loop-test .taken) in
-    record { fits = omega (arith, f, b .loop .inv .2, g .good .1 .1 .1 .1 .1 .1 .0 .1) }
+mul-u-2 c = index-fits (mine (c .before .before .before .before .before .before)) (room (c .before .before .before .before .before .before))
 
 slice-write-u : tie.Need-slice-write-u Inv-loop μ-loop
-slice-write-u c =
-    let g = c .before .before .before .before .before .before .before .before .before .before .before in
-    let b = c .before .before .before .before .before .before .before in
-    let f = beyond-own _ _ _ _ _ _ (g .pre) _ _ (b .loop .inv .3 (g .pre)) (b .loop .inv .0) (c .before .before .before .before .before .before .loop-test .taken) in
-    f
+slice-write-u c = mine (c .before .before .before .before .before .before)
 
 mul-u-3 : tie.Need-mul-u-3 Inv-loop μ-loop
-mul-u-3 c =
-    let g = c .before .before .before .before .before .before .before .before .before .before .before in
-    let b = c .before .before .before .before .before .before .before in
-    let f = beyond-other _ _ _ _ _ _ (g .pre) _ _ (b .loop .inv .3 (g .pre)) (b .loop .inv .0) (c .before .before .before .before .before .before .loop-test .taken) _ (c .before .before .before .before .place-by .ensures) in
-    record { fits = omega (arith, f, b .loop .inv .2, g .good .1 .1 .1 .1 .1 .1 .0 .1) }
+mul-u-3 c = index-fits (other (c .before .before .before .before)) (room (c .before .before .before .before .before .before))
 
 slice-write-u-2 : tie.Need-slice-write-u-2 Inv-loop μ-loop
-slice-write-u-2 c =
-    let g = c .before .before .before .before .before .before .before .before .before .before .before in
-    let b = c .before .before .before .before .before .before .before in
-    let f = beyond-other _ _ _ _ _ _ (g .pre) _ _ (b .loop .inv .3 (g .pre)) (b .loop .inv .0) (c .before .before .before .before .before .before .loop-test .taken) _ (c .before .before .before .before .place-by .ensures) in
-    simp length-set f
+slice-write-u-2 c = simp length-set (other (c .before .before .before .before))
 
 add-next : tie.Need-add-next Inv-loop μ-loop
-add-next c =
-    let g = c .before .before .before .before .before .before .before .before .before .before .before in
-    let b = c .before .before .before .before .before .before .before in
-    let f = beyond-other _ _ _ _ _ _ (g .pre) _ _ (b .loop .inv .3 (g .pre)) (b .loop .inv .0) (c .before .before .before .before .before .before .loop-test .taken) _ (c .before .before .before .before .place-by .ensures) in
-    record { fits = omega (arith, f, b .loop .inv .2, g .good .1 .1 .1 .1 .1 .1 .0 .0) }
+add-next c = next-fits (lt-of-le-of-lt (le-add-left _ _) (other (c .before .before .before .before))) (room (c .before .before .before .before .before .before))
 
 add-t : tie.Need-add-t Inv-loop μ-loop
-add-t c = search needs
+add-t c = next-fits (c .before .before .before .before .before .before .loop-test .taken) (c .before .before .before .before .before .before .before .before .before .before .before .good .0 .1)
 
 loop-less : tie.Need-loop-less Inv-loop μ-loop
-loop-less c = search needs
+loop-less c = less _ _ (c .before .before .before .before .before .before .loop-test .taken)
 
 loop-again : tie.Need-loop-again Inv-loop μ-loop
 loop-again c =
     let g = c .before .before .before .before .before .before .before .before .before .before .before in
     let b = c .before .before .before .before .before .before .before in
     let r = c .before .before .before .before .before .before .loop-test .taken in (
-      omega (arith, b .loop .inv .0),
+      le-trans (b .loop .inv .0) (le-add-right _ 1),
       next-le _ _ r,
       simp (length-set, length-set) (b .loop .inv .2),
       λ w. beyond-turn _ _ _ _ _ _ w _ _ (b .loop .inv .3 w) (b .loop .inv .0) r _ (c .before .before .before .before .place-by .ensures),
@@ -132,7 +100,7 @@ same-length c = c .before .loop .inv .2
 returns : tie.Need-returns Inv-loop μ-loop
 returns c =
     let b = c .before in
-    λ w. beyond-end _ _ _ _ _ _ w _ _ (b .loop .inv .1) (omega (arith, c .loop-test)) (b .loop .inv .3 w)
+    λ w. beyond-end _ _ _ _ _ _ w _ _ (b .loop .inv .1) (c .loop-test .left) (b .loop .inv .3 w)
 
 pub trade-beyond-spec : {M : Type 1} → statement M
 trade-beyond-spec =

@@ -1,52 +1,53 @@
 -- `put_answer` meets its contract.
+use mathlib.Core.Path.{refl, sym}
 use Rattle.inner_reading.specs.Read.{storesOf, Bounded}
+use Rattle.inner_lending.proofs.Arrays.{line-room}
 use Rattle.job.proofs.Filled.{arrays-sized}
 use Rattle.job.proofs.Texts.{read-refused, read-granted}
-use borrow.Author.Needs.{needs}
 use Rattle.job.proofs.whole.put_answer.Statement.{statement}
 use Rattle.job.proofs.whole.put_answer.Tie as tie
 
 slice-aggregate-read-job : tie.Need-slice-aggregate-read-job
-slice-aggregate-read-job c = search needs
+slice-aggregate-read-job c = refl
 
 slice-aggregate-read-job-2 : tie.Need-slice-aggregate-read-job-2
-slice-aggregate-read-job-2 c = search needs
+slice-aggregate-read-job-2 c = refl
 
 slice-aggregate-read-job-3 : tie.Need-slice-aggregate-read-job-3
-slice-aggregate-read-job-3 c = search needs
+slice-aggregate-read-job-3 c = refl
 
 slice-aggregate-read-job-4 : tie.Need-slice-aggregate-read-job-4
-slice-aggregate-read-job-4 c = search needs
+slice-aggregate-read-job-4 c = refl
 
 slice-aggregate-read-job-5 : tie.Need-slice-aggregate-read-job-5
-slice-aggregate-read-job-5 c = search needs
+slice-aggregate-read-job-5 c = refl
 
 read-job-requires : tie.Need-read-job-requires
-read-job-requires c κs = search needs
+read-job-requires c κs = arrays-sized _ refl refl refl refl refl
 
 enum-known-read : tie.Need-enum-known-read
-enum-known-read c = search needs
+enum-known-read c = c .match .keys1
 
 put-refused-requires : tie.Need-put-refused-requires
-put-refused-requires c κs = search needs
+put-refused-requires c κs = line-room (c .before .before .before .before .before .before .before .before .before .before .before .before .before .before .before .before .before .pre)
 
 enum-known-read-2 : tie.Need-enum-known-read-2
-enum-known-read-2 c = search needs
+enum-known-read-2 c = c .match .keys2
 
 slice-aggregate-put-read : tie.Need-slice-aggregate-put-read
-slice-aggregate-put-read c = search needs
+slice-aggregate-put-read c = sym (c .before .before .before .before .before .before .before .before .before .before .read-job .kept .1 .0)
 
 slice-aggregate-put-read-2 : tie.Need-slice-aggregate-put-read-2
-slice-aggregate-put-read-2 c = search needs
+slice-aggregate-put-read-2 c = sym (c .before .before .before .before .before .before .before .before .before .before .before .read-job .kept .1 .1 .0)
 
 slice-aggregate-put-read-3 : tie.Need-slice-aggregate-put-read-3
-slice-aggregate-put-read-3 c = search needs
+slice-aggregate-put-read-3 c = sym (c .before .before .before .before .before .before .before .before .before .before .before .before .read-job .kept .1 .1 .1 .0)
 
 slice-aggregate-put-read-4 : tie.Need-slice-aggregate-put-read-4
-slice-aggregate-put-read-4 c = search needs
+slice-aggregate-put-read-4 c = sym (c .before .before .before .before .before .before .before .before .before .before .before .before .before .read-job .kept .1 .1 .1 .1 .0)
 
 slice-aggregate-put-read-5 : tie.Need-slice-aggregate-put-read-5
-slice-aggregate-put-read-5 c = search needs
+slice-aggregate-put-read-5 c = sym (c .before .before .before .before .before .before .before .before .before .before .before .before .before .before .read-job .kept .1 .1 .1 .1 .1 .0)
 
 put-read-requires : tie.Need-put-read-requires
 unfolding Bounded

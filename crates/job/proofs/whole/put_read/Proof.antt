@@ -1,63 +1,75 @@
 -- `put_read` meets its contract.
+use Prim.Native.Nat.{zero-le}
+use native.Mathlib.Nat.{le-trans}
+use Rattle.inner_lending.proofs.Arrays.{more-fits, more-within}
 use Rattle.inner_reading.specs.Read.{storesOf}
 use Rattle.job.proofs.Texts.{parts-are}
-use borrow.Author.Needs.{needs}
 use Rattle.job.proofs.whole.put_read.Statement.{statement}
 use Rattle.job.proofs.whole.put_read.Tie as tie
 
 add-more : tie.Need-add-more
-add-more c = search needs
+add-more c = more-fits (c .before .before .before .before .before .before .pre .1 .small)
 
 sub-put-plan : tie.Need-sub-put-plan
-sub-put-plan c = search needs
+sub-put-plan c = zero-le
 
 part-put-plan-start : tie.Need-part-put-plan-start
-part-put-plan-start c = search needs
+part-put-plan-start c = zero-le
 
 part-put-plan-end : tie.Need-part-put-plan-end
-part-put-plan-end c = search needs
+part-put-plan-end c =
+    let s = c .before .before .before .before .before .before .before in
+    le-trans (more-within (s .pre .1 .small)) (s .pre .2 .starts-room)
 
 sub-put-plan-2 : tie.Need-sub-put-plan-2
-sub-put-plan-2 c = search needs
+sub-put-plan-2 c = zero-le
 
 part-put-plan-start-2 : tie.Need-part-put-plan-start-2
-part-put-plan-start-2 c = search needs
+part-put-plan-start-2 c = zero-le
 
 part-put-plan-end-2 : tie.Need-part-put-plan-end-2
-part-put-plan-end-2 c = search needs
+part-put-plan-end-2 c =
+    let s = c .before .before .before .before .before .before .before .before in
+    le-trans (s .pre .1 .few) (s .pre .2 .columns-room)
 
 sub-put-plan-3 : tie.Need-sub-put-plan-3
-sub-put-plan-3 c = search needs
+sub-put-plan-3 c = zero-le
 
 part-put-plan-start-3 : tie.Need-part-put-plan-start-3
-part-put-plan-start-3 c = search needs
+part-put-plan-start-3 c = zero-le
 
 part-put-plan-end-3 : tie.Need-part-put-plan-end-3
-part-put-plan-end-3 c = search needs
+part-put-plan-end-3 c =
+    let s = c .before .before .before .before .before .before .before .before .before in
+    le-trans (s .pre .1 .few) (s .pre .2 .values-room)
 
 sub-put-plan-4 : tie.Need-sub-put-plan-4
-sub-put-plan-4 c = search needs
+sub-put-plan-4 c = zero-le
 
 part-put-plan-start-4 : tie.Need-part-put-plan-start-4
-part-put-plan-start-4 c = search needs
+part-put-plan-start-4 c = zero-le
 
 part-put-plan-end-4 : tie.Need-part-put-plan-end-4
-part-put-plan-end-4 c = search needs
+part-put-plan-end-4 c =
+    let s = c .before .before .before .before .before .before .before .before .before .before in
+    le-trans (s .pre .1 .small) (s .pre .2 .right-room)
 
 sub-put-plan-5 : tie.Need-sub-put-plan-5
-sub-put-plan-5 c = search needs
+sub-put-plan-5 c = zero-le
 
 part-put-plan-start-5 : tie.Need-part-put-plan-start-5
-part-put-plan-start-5 c = search needs
+part-put-plan-start-5 c = zero-le
 
 part-put-plan-end-5 : tie.Need-part-put-plan-end-5
-part-put-plan-end-5 c = search needs
+part-put-plan-end-5 c =
+    let s = c .before .before .before .before .before .before .before .before .before .before .before in
+    le-trans (s .pre .1 .picked) (le-trans (s .pre .1 .small) (s .pre .2 .rows-room))
 
 put-plan-requires : tie.Need-put-plan-requires
-put-plan-requires c κs = search needs
+put-plan-requires c κs = (c .before .before .before .before .before .before .before .before .before .before .before .before .pre .0, c .before .before .before .before .before .before .before .before .before .before .before .before .pre .1 .small)
 
 same-length : tie.Need-same-length
-same-length c = search needs
+same-length c = c .before .before .put-plan .kept .0
 
 returns : tie.Need-returns
 returns c =

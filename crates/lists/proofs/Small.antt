@@ -1,6 +1,6 @@
 -- Small laws of numbers: a need that cites one does not ask arithmetic to read all that is known there.
 use mathlib.Core.Path.{_≡_}
-use Prim.Native.Nat.{ℕ, _+_, _-_, _*_, _^_, _≤_, _<_}
+use Prim.Native.Nat.{ℕ, suc, _+_, _-_, _*_, _^_, _≤_, _<_}
 use native.Mathlib.Omega.{arith}
 use mir.Syntax.{w64}
 use mir.Val.{Fits}
@@ -43,6 +43,12 @@ index-fits l room = record { fits = omega arith }
 pub next-fits : {i n : ℕ} → i < n → n * 8 < 2 ^ 63 → Fits w64 (i + 1)
 next-fits l room = record { fits = omega arith }
 
+pub before-fits : {i n : ℕ} → i < n → n * 8 < 2 ^ 63 → Fits w64 ((i - 1) * 8)
+before-fits l room = record { fits = omega arith }
+
+pub before-below : {i n : ℕ} → i < n → i - 1 < n
+before-below l = omega arith
+
 -- a part that begins at one number and ends at another
 pub part-fits : {a e n : ℕ} → (a ≤ e) × (e ≤ n) → n * 8 < 2 ^ 63 → Fits w64 (a * 8)
 part-fits within room = record { fits = omega (arith, within) }
@@ -50,3 +56,19 @@ part-fits within room = record { fits = omega (arith, within) }
 -- the sums on the way to the place behind place t of a part that begins at a
 pub sums-fit : (a t : ℕ) {n : ℕ} → a + t + 1 ≤ n → n * 8 < 2 ^ 63 → Fits w64 (a + t) × Fits w64 (a + t + 1) × Fits w64 (t + 1)
 sums-fit a t l room = (record { fits = omega arith }, record { fits = omega arith }, record { fits = omega arith })
+
+-- a number from 1 to n, at the place before it in a store of as many places
+pub record Placed (size i : ℕ) : Type 0 where
+  pub low : 1 ≤ i
+  pub inside : i - 1 < size
+  pub fits : Fits w64 ((i - 1) * 8)
+
+pub placed : {size n i : ℕ} → (1 ≤ i) × (i ≤ n) → size ≡ n → n * 8 < 2 ^ 63 → Placed size i
+placed (low, high) same room = record { low = low; inside = omega arith; fits = record { fits = omega arith } }
+
+-- places of stores that are as long as n, or by one longer
+pub below-size : {i n m : ℕ} → i ≤ n → m ≡ suc n → i < m
+below-size l same = omega arith
+
+pub before-size : {i n m : ℕ} → 1 ≤ i → i ≤ n → m ≡ n → i - 1 < m
+before-size low high same = omega arith
