@@ -131,6 +131,10 @@ module _ (part : List Float) (rows columns : List ℕ) (row d x : List Float) (k
   pub product-fits : (c1 c2 : ℕ) → c1 ≤ length part → c2 ≤ length row → c1 * c2 ≤ 1048576
   product-fits c1 c2 l r = few-product c1 c2 (w .n) (w .few) (omega (arith, part-size, rows-few)) (omega (arith, row-size, columns-few))
 
+  -- and so does one count times itself
+  pub square-fits : (c1 : ℕ) → c1 ≤ length part → c1 * c1 ≤ 1048576
+  square-fits c1 l = few-product c1 c1 (w .n) (w .few) (omega (arith, part-size, rows-few)) (omega (arith, part-size, rows-few))
+
   -- all four loops together
   pub column-leaves : (part′ d′ x′ : List Float) (f1 c1 f2 f3 c2 : ℕ)
       → (part′ ≡ map (overPivot (getD d (k - 1) nan)) part) × (f1 ≡ flagged 0 (all finite part′)) × (c1 ≡ nonzeros part′) × (c1 ≤ length part)

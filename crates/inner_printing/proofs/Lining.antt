@@ -1,12 +1,10 @@
 -- Numbers, and lines of numbers, one behind the other.
 use mathlib.Core.Path.{_≡_, ap, _∙_}
 use mathlib.Core.List.{List, [], _∷_, _++_, append-nil, append-assoc}
-use Prim.Native.Nat.{ℕ, suc, _+_, _-_, _*_, _^_, _≤_, _<_}
+use Prim.Native.Nat.{ℕ, suc, _+_, _-_, _*_, _≤_, _<_}
 use native.Mathlib.Nat.{mul-suc, mul-le-mul-left}
 use native.Mathlib.Numerals.{add-one}
 use native.Mathlib.Omega.{arith}
-use mir.Syntax.{w64}
-use mir.Val.{Fits}
 use lib.Ieee.{Float, nan}
 use lib.ListN.{length, take, getD}
 use lib.Seq.{take-suc, take-all, length-take-le}
@@ -19,20 +17,6 @@ use Rattle.inner_printing.specs.Appended.{Appended}
 use Rattle.inner_printing.specs.Lines.{numbersLine, valueLine, valueLines}
 use Rattle.inner_printing.proofs.Appending.{append-none, append-then}
 use Rattle.inner_printing.proofs.Hexadecimals.{hex-length}
-
--- ---- a place in a store, and the next one: laws over numbers, so that arithmetic does not read all that a loop knows
-
-pub less : {n i : ℕ} → i < n → n - (i + 1) < n - i
-less l = omega arith
-
-pub next-le : {n i : ℕ} → i < n → i + 1 ≤ n
-next-le l = omega arith
-
-pub index-fits : {n i : ℕ} → i < n → n * 8 < 2 ^ 63 → Fits w64 (i * 8)
-index-fits l room = record { fits = omega arith }
-
-pub next-fits : {n i : ℕ} → i < n → n * 8 < 2 ^ 63 → Fits w64 (i + 1)
-next-fits l room = record { fits = omega arith }
 
 -- lines of at most w places each, n of them from a place on: room for the next one, where it ends, and where the last one ends
 pub lines-room : (w at i n : ℕ) {end out out₀ : ℕ} → end ≤ at + w * i → i < n → at + w * n ≤ out₀ → out ≡ out₀ → end + w ≤ out

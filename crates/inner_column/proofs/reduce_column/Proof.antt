@@ -1,7 +1,7 @@
 -- `reduce_column` meets its contract: four loops, one after the other.
 use native.Mathlib.Omega.{arith}
 use Rattle.lists.proofs.Small.{index-fits}
-use Rattle.inner_column.proofs.Columns.{pivot-inside, right-asks, diagonal-asks, product-fits, column-leaves}
+use Rattle.inner_column.proofs.Columns.{pivot-inside, right-asks, diagonal-asks, product-fits, square-fits, column-leaves}
 use Rattle.inner_column.proofs.reduce_column.Statement.{statement}
 use Rattle.inner_column.proofs.reduce_column.Tie as tie
 
@@ -26,8 +26,9 @@ reduce-diagonal-requires c κs = diagonal-asks _ _ _ _ _ _ _ (c .before .before 
 count-nonzero-requires : tie.Need-count-nonzero-requires
 count-nonzero-requires c κs = tt
 
+-- Of both products, so that code which multiplies one count with itself is refused for what it counts.
 mul-t13 : tie.Need-mul-t13
-mul-t13 c = record { fits = omega (arith, product-fits _ _ _ _ _ _ _ (c .before .before .before .before .before .before .before .before .before .before .before .before .before .before .before .before .before .before .before .before .before .before .before .pre) _ _ (c .before .before .before .before .before .before .before .before .before .before .before .before .before .before .divide .ensures .3) (c .before .count-nonzero .ensures .1)) }
+mul-t13 c = record { fits = omega (arith, product-fits _ _ _ _ _ _ _ (c .before .before .before .before .before .before .before .before .before .before .before .before .before .before .before .before .before .before .before .before .before .before .before .pre) _ _ (c .before .before .before .before .before .before .before .before .before .before .before .before .before .before .divide .ensures .3) (c .before .count-nonzero .ensures .1), square-fits _ _ _ _ _ _ _ (c .before .before .before .before .before .before .before .before .before .before .before .before .before .before .before .before .before .before .before .before .before .before .before .pre) _ (c .before .before .before .before .before .before .before .before .before .before .before .before .before .before .divide .ensures .3)) }
 
 same-length : tie.Need-same-length
 same-length c = c .before .before .before .before .before .before .before .before .before .before .before .before .before .before .divide .kept .0

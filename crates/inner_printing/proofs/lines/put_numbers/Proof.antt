@@ -5,7 +5,8 @@ use lib.ListN.{length, take}
 use Rattle.lists.specs.Functions.{chain}
 use Rattle.foundation.specs.Printing.{spaced}
 use Rattle.inner_printing.specs.Appended.{Appended}
-use Rattle.inner_printing.proofs.Lining.{less, next-le, index-fits, next-fits, lines-room, lines-more, lines-end, numbers-start, numbers-turn, numbers-end}
+use Rattle.lists.proofs.Small.{less, next-le, index-fits, next-fits}
+use Rattle.inner_printing.proofs.Lining.{lines-room, lines-more, lines-end, numbers-start, numbers-turn, numbers-end}
 use Rattle.inner_printing.proofs.lines.put_numbers.Statement.{statement}
 use Rattle.inner_printing.proofs.lines.put_numbers.Tie as tie
 
@@ -35,13 +36,13 @@ add-i : tie.Need-add-i Inv-loop μ-loop
 add-i c = next-fits (c .before .before .before .before .before .loop-test .taken) (c .before .before .before .before .before .before .before .before .before .good .1 .1 .0 .1)
 
 loop-less : tie.Need-loop-less Inv-loop μ-loop
-loop-less c = less (c .before .before .before .before .before .loop-test .taken)
+loop-less c = less _ _ (c .before .before .before .before .before .loop-test .taken)
 
 loop-again : tie.Need-loop-again Inv-loop μ-loop
 loop-again c =
     let l = c .before .before .before .before .before .before .loop in
     let e = c .before .before .put-spaced .ensures in
-    (next-le (c .before .before .before .before .before .loop-test .taken), lines-more 21 _ (l .i) (l .inv .1) (e .1), numbers-turn (c .before .before .before .before .before .before .before .before .before .args .numbers .now) (l .i) (c .before .before .before .before .before .loop-test .taken) (l .inv .2) (e .0))
+    (next-le _ _ (c .before .before .before .before .before .loop-test .taken), lines-more 21 _ (l .i) (l .inv .1) (e .1), numbers-turn (c .before .before .before .before .before .before .before .before .before .args .numbers .now) (l .i) (c .before .before .before .before .before .loop-test .taken) (l .inv .2) (e .0))
 
 same-length : tie.Need-same-length Inv-loop μ-loop
 same-length c = c .before .loop .inv .2 .size
