@@ -5,16 +5,17 @@
 #   make examples      the examples in C and Fortran, compared with what they must print
 #   make test-c        header and library from C, C++ and Fortran: fixed calls, random systems
 #   make test-python   the Python module (PYTHON=path of a Python with numpy)
+#   make test-tools    the program and the tools of tools/, once `rt check program` has built the program
 #   make bench         times beside other solvers
 #
-# LIBRARY=path takes another archive instead of the repository's.
+# LIBRARY=path takes another archive instead of the repository's. tools/test_callers.sh runs all tests over an archive that is made anew.
 
 OWN_LIBRARY := target/staticlib/libdalumiveth.a
 LIBRARY ?= $(OWN_LIBRARY)
 SHARED := target/libdalumiveth.so
 PYTHON ?= $(firstword $(wildcard /usr/bin/python3) python3)
 
-.PHONY: library shared examples test-c test-python bench always
+.PHONY: library shared examples test-c test-python test-tools bench always
 
 library: $(LIBRARY)
 
@@ -43,6 +44,9 @@ test-c: $(LIBRARY)
 
 test-python: shared
 	$(PYTHON) -m unittest discover -s python/tests
+
+test-tools:
+	@for test in tools/test_*.py; do echo "python3 $$test"; python3 $$test || exit 1; done
 
 bench: $(LIBRARY)
 	$(MAKE) -C bench run LIBRARY=$(abspath $(LIBRARY))

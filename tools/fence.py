@@ -3,10 +3,13 @@
 
 A function with a `requires` that another crate calls has to be `pub`, and whoever lists its crate can call it. So crates.txt is the fence:
 
-1. An inner crate (its name begins with inner_) may be listed by the open crate of its part and by inner crates of the same part, and by
-   nobody else. PARTS below is the table.
-2. No open function of a library for callers (any other crate with a src/lib.rt) has a `requires`. Open are the functions marked `pub` in
-   src/lib.rt and in its public modules, and those of private modules that a `pub use` names. An inner crate is not handed on by `pub use`.
+1. A crate's name says its part. `plan_..` and `verify_..` are inner crates of planning, `run_..` of elimination, `job_..` of job: each may be listed
+   by the open crate of its part and by inner crates of the same part, and by nobody else; planning's `plan_..` do not list its `verify_..`.
+   `store_..` are inner crates that every part may list, and that list none of the parts'.
+2. An open function of a library for callers (any other crate with a src/lib.rt) has no `requires`, and has an `ensures`. Open are the functions
+   marked `pub` in src/lib.rt and in its public modules, and those of private modules that a `pub use` names. An inner crate is not handed on
+   by `pub use`. A `pub use` that the fence cannot follow is a breach: one of several names, under another name, or of nothing that it finds.
+3. What a reader must believe does not rest on what only the prover reads: no file of specs/ or src/ cites a module of `proofs`.
 
 Prints a line for each breach, and ends with status 1 if there is one.
 """
@@ -14,14 +17,10 @@ import os
 import re
 import sys
 
-# The open crate of each part, and its inner crates.
-PARTS = {
-    "planning": ["inner_searching", "inner_stores", "inner_patterns", "inner_counts", "inner_gathering", "inner_sharing", "inner_appending", "inner_step",
-                 "inner_comparing", "inner_planning", "inner_verifying", "inner_plan_call", "inner_verify_call"],
-    "elimination": ["inner_slots", "inner_choosing", "inner_trading", "inner_exchange", "inner_stretches", "inner_sides", "inner_column", "inner_steps", "inner_loading",
-                    "inner_solving", "inner_asking", "inner_judging", "inner_clearing", "inner_running", "inner_answering"],
-    "job": ["inner_printing", "inner_reporting", "inner_operands", "inner_commands", "inner_standing", "inner_reading", "inner_lending"],
-}
+# The open crate of the part that a name's first word stands for; `store` stands for every part.
+PART_OF = {"plan": "planning", "verify": "planning", "run": "elimination", "job": "job"}
+SHARED = "store"
+KIT = ("std", "io", "libc", "os")
 
 
 def listed():
@@ -36,24 +35,39 @@ def listed():
     return crates
 
 
-def inner_breaches(crates):
-    part_of = {inner: part for part, inners in PARTS.items() for inner in inners}
-    for name in crates:
-        if name.startswith("inner_") and name not in part_of:
-            yield f"crates.txt: {name} is an inner crate of no part: add it to PARTS in tools/fence.py"
-    for inner in part_of:
-        if inner not in crates:
-            yield f"tools/fence.py: {inner} is not in crates.txt"
+def word_of(name):
+    """The first word of an inner crate's name, None for any other crate."""
+    word, _, rest = name.partition("_")
+    return word if rest and (word in PART_OF or word == SHARED) else None
+
+
+def part_of(name):
+    """The open crate of the part that a crate belongs to, its own name where it is no inner crate."""
+    word = word_of(name)
+    return name if word is None else PART_OF.get(word)
+
+
+def may_list(name, used):
+    """Whether the fence lets a crate list another one."""
+    word = word_of(used)
+    if word is None:
+        return word_of(name) != SHARED or used not in PART_OF.values()
+    if word == SHARED:
+        return word_of(name) is not None or name in PART_OF.values()
+    return part_of(name) == PART_OF[word] and not (word_of(name) == "plan" and word == "verify")
+
+
+def list_breaches(crates):
     for name, uses in crates.items():
         for used in uses:
-            part = part_of.get(used)
-            if part and name != part and part_of.get(name) != part:
-                yield f"crates.txt: {name} lists {used}, which is for {part} and its inner crates alone"
+            if not may_list(name, used):
+                yield f"crates.txt: {name} lists {used}, which is not for it"
 
 
 def without_comments(path):
+    """The text of a file of code, or of definitions, with the comments' lines empty."""
     with open(path) as file:
-        return re.sub(r"//[^\n]*", "", file.read())
+        return re.sub(r"//[^\n]*" if path.endswith(".rt") else r"(?m)(^|(?<=\s))--[^\n]*", "", file.read())
 
 
 def past(text, at, opening, closing):
@@ -66,59 +80,113 @@ def past(text, at, opening, closing):
             return at
 
 
-def requiring(text):
-    """The names of the functions marked `pub` that have a `requires`."""
-    for found in re.finditer(r'\bpub\s+(?:extern\s+"C"\s+)?fn\s+(\w+)', text):
+def contracts(text):
+    """The functions marked `pub`, each with the kinds of its clauses: `requires`, `ensures`."""
+    for found in re.finditer(r'\bpub\s+(?:(?:const|unsafe|extern\s+"C")\s+)*fn\s+(\w+)', text):
         at = past(text, text.index("(", found.end()), "(", ")")
+        clauses = set()
         while True:
             brace = text.index("{", at)
-            clause = text[at:brace]
-            if re.search(r"\brequires\b", clause):
-                yield found.group(1)
+            kinds = set(re.findall(r"\b(requires|ensures)\b", text[at:brace]))
+            if not kinds:
                 break
-            if not re.search(r"\bensures\b", clause):
-                break
+            clauses |= kinds
             at = past(text, brace, "{", "}")
+        yield found.group(1), clauses
+
+
+def contract_breaches(path, name, clauses):
+    if "requires" in clauses:
+        yield f"{path}: {name} is open to callers and has a requires"
+    if "ensures" not in clauses:
+        yield f"{path}: {name} is open to callers and has no ensures"
 
 
 def open_breaches(folder, module):
     """The breaches of one file and of the modules that it declares."""
     path = os.path.join(folder, module + ".rt")
     text = without_comments(path)
-    for name in requiring(text):
-        yield f"{path}: {name} is open to callers and has a requires"
+    for name, clauses in contracts(text):
+        yield from contract_breaches(path, name, clauses)
     if re.search(r"\bmod\s+\w+\s*\{", text):
         yield f"{path}: a module that is written inside a file, which the fence does not read"
-    inside = folder if module == "lib" else os.path.join(folder, module)
+    inside = inside_of(folder, module)
     for public, name in re.findall(r"\b(pub\s+)?mod\s+(\w+)\s*;", text):
         if public:
             yield from open_breaches(inside, name)
     for names in re.findall(r"\bpub\s+use\s+([^;]+);", text):
-        if "{" in names or "*" in names:
-            yield f"{path}: a pub use of several names at once, which the fence does not read"
-            continue
-        parts = [part.strip() for part in names.replace("crate::", "").split("::")]
-        if parts[0].startswith("inner_"):
-            yield f"{path}: pub use of {'::'.join(parts)} hands an inner crate on"
-            continue
-        source = os.path.join(folder, *parts[:-1]) + ".rt"
-        if len(parts) > 1 and os.path.exists(source) and parts[-1] in requiring(without_comments(source)):
-            yield f"{path}: pub use opens {'::'.join(parts)}, which has a requires"
+        yield from handed_on_breaches(inside, path, names)
+
+
+def inside_of(folder, module):
+    """The folder of the modules that a module declares."""
+    return folder if module == "lib" else os.path.join(folder, module)
+
+
+def source_folder(path):
+    """The src/ folder of the crate that a file of code is in."""
+    return path.partition("/src/")[0] + "/src"
+
+
+def handed_on_breaches(inside, path, names):
+    """The breaches of one `pub use` of the file at `path`, whose modules are in the folder `inside`."""
+    if re.search(r"[{*]|\bas\b", names):
+        yield f"{path}: a pub use of several names at once or under another name, which the fence does not read"
+        return
+    parts = [part.strip() for part in names.split("::")]
+    folder = source_folder(path) if parts[0] == "crate" else inside
+    parts = parts[1:] if parts[0] in ("crate", "self") else parts
+    if os.path.exists(os.path.join(folder, parts[0] + ".rt")):
+        yield from opened_breaches(folder, path, parts)
+    elif word_of(parts[0]) is not None:
+        yield f"{path}: pub use of {'::'.join(parts)} hands an inner crate on"
+    elif not os.path.isdir(os.path.join("crates", parts[0])) and parts[0] not in KIT:
+        yield f"{path}: pub use of {names.strip()}, which the fence does not find"
+
+
+def opened_breaches(folder, path, parts):
+    """The breaches of what a `pub use` opens: a module, or of a module a function, a module of its own or what it hands on itself."""
+    source = os.path.join(folder, *parts[:-1]) + ".rt"
+    if len(parts) == 1:
+        yield from open_breaches(folder, parts[0])
+    elif not os.path.exists(source):
+        yield f"{path}: pub use of {'::'.join(parts)}, which the fence does not find"
+    else:
+        text, inside = without_comments(source), os.path.join(folder, *parts[:-1])
+        for name, clauses in contracts(text):
+            if name == parts[-1]:
+                yield from contract_breaches(source, name, clauses)
+        if re.search(rf"\bpub\s+mod\s+{parts[-1]}\s*;", text):
+            yield from open_breaches(inside, parts[-1])
+        for names in re.findall(r"\bpub\s+use\s+([^;]+);", text):
+            if names.split("::")[-1].strip() == parts[-1] or re.search(r"[{*]|\bas\b", names):
+                yield from handed_on_breaches(inside, source, names)
+
+
+def citing_breaches(name):
+    """The files of specs/ and src/ that cite a module of `proofs`."""
+    for part in ("specs", "src"):
+        for folder, _, files in os.walk(os.path.join("crates", name, part)):
+            for path in (os.path.join(folder, file) for file in sorted(files) if file.endswith((".rt", ".antt"))):
+                for number, line in enumerate(without_comments(path).split("\n"), 1):
+                    if re.search(r"\bproofs\.", line):
+                        yield f"{path}:{number}: cites proofs: what it needs belongs in specs"
 
 
 def main():
     crates = listed()
-    breaches = list(inner_breaches(crates))
+    breaches = list(list_breaches(crates))
     for name in crates:
         folder = os.path.join("crates", name, "src")
-        if not name.startswith("inner_") and os.path.exists(os.path.join(folder, "lib.rt")):
+        if word_of(name) is None and os.path.exists(os.path.join(folder, "lib.rt")):
             breaches += open_breaches(folder, "lib")
+        breaches += citing_breaches(name)
     for breach in breaches:
         print("fence:", breach)
     if breaches:
         sys.exit(1)
-    inner = [name for name in crates if name.startswith("inner_")]
-    print(f"fence: {len(inner)} inner crates behind {len(PARTS)} open crates, {len(crates) - len(inner)} other crates")
+    inner = [name for name in crates if word_of(name) is not None]
+    print(f"fence: {len(inner)} inner crates of {len(set(PART_OF.values()))} parts, {len(crates) - len(inner)} other crates")
 
 
 if __name__ == "__main__":

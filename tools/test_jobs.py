@@ -12,7 +12,7 @@ import unittest
 
 import job_answer
 import job_bytes
-import job_cases
+import cases_job
 import job_text
 import jobs
 import matrix_market
@@ -202,7 +202,7 @@ class Answers(unittest.TestCase):
     def test_answer_of_another_job(self):
         for answer in [f"refused {number} 0\n" for number in job_answer.SEEN]:
             self.assertIn("belongs to another job", job_answer.explain(answer, four_job())[0])
-        for job in (b"", job_cases.four([1, 2, 3, 4]), job_cases.four(right=[job_cases.NAN] * 4)):
+        for job in (b"", cases_job.four([1, 2, 3, 4]), cases_job.four(right=[cases_job.NAN] * 4)):
             with self.assertRaises(job_answer.BadAnswer):
                 job_answer.explain(LISTING, job)
 
@@ -221,7 +221,7 @@ class RecordedJobs(unittest.TestCase):
     """The recorded jobs, whose answers a dense program of another author gave."""
 
     def test_all(self):
-        recorded = job_cases.recorded()
+        recorded = cases_job.recorded()
         self.assertGreater(len(recorded), 400)
         for number, (job, answer) in enumerate(recorded, 1):
             with self.subTest(job=number):

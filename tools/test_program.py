@@ -13,7 +13,7 @@ import sys
 import time
 import unittest
 
-import job_cases
+import cases_job
 
 HERE = os.path.dirname(os.path.abspath(__file__))
 PROGRAM = os.environ.get("PROGRAM", os.path.join(HERE, "..", "target", "bin", "program"))
@@ -38,7 +38,7 @@ class Answers(unittest.TestCase):
             self.assertEqual(run(file.read()), (0, LISTING, ""))
 
     def test_recorded_jobs(self):
-        for number, (job, answer) in enumerate(job_cases.recorded(), 1):
+        for number, (job, answer) in enumerate(cases_job.recorded(), 1):
             with self.subTest(job=number):
                 self.assertEqual(run(job), (0, answer, ""))
 
@@ -48,7 +48,7 @@ class Answers(unittest.TestCase):
             self.assertEqual(shell(f"head -c {size} /dev/zero | \"$0\"").stdout, b"refused 18 0\n", size)
 
     def test_pieces(self):
-        job = job_cases.four()
+        job = cases_job.four()
         for sizes in ([1] * len(job), [3, 3, 11, 100], [150, 1]):
             process = subprocess.Popen([PROGRAM], stdin=subprocess.PIPE, stdout=subprocess.PIPE, stderr=subprocess.PIPE)
             at = 0

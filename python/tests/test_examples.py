@@ -1,19 +1,17 @@
-"""Every example of the README's section for Python, run as it stands."""
+"""Every Python example of docs/LANGUAGES.md, run as it stands."""
 
 import doctest
 import unittest
 
 from support import ROOT, sparse
 
+PAGE = ROOT / "docs" / "LANGUAGES.md"
 HEADING = "## From Python"
 
 
 def section():
-    """The section, out of README.md, or out of the part that is merged into it."""
-    for path in (ROOT / "README.md", ROOT / "docs-parts" / "readme-python.md"):
-        if path.exists() and HEADING in path.read_text():
-            return path.read_text().split(HEADING, 1)[1].split("\n## ", 1)[0]
-    raise AssertionError(f"no section {HEADING}")
+    """The section for Python."""
+    return PAGE.read_text().split(HEADING, 1)[1].split("\n## ", 1)[0]
 
 
 def blocks(text):

@@ -1,14 +1,22 @@
--- What a run's types say: the extent asked for, and the answer by document 01's numbers.
+-- What a run's types say: the choice of pivot rows and the extent asked for, and the answer by document 01's numbers.
+use mathlib.Core.List.{List}
 use Prim.Native.Nat.{ℕ}
 use Rattle.foundation.specs.Answer.{Answer, refused, granted}
-use Rattle.foundation.specs.Reference.{Extent as RunExtent, whole, cut}
+use Rattle.foundation.specs.Reference.{Choice, largest, listed, Extent as RunExtent, whole, cut}
 use Rattle.answers.specs.declared.Extent.{Extent}
 use Rattle.answers.specs.declared.Extent.the-variants.{Whole, Cut}
+use Rattle.answers.specs.declared.PivotChoice.{PivotChoice}
+use Rattle.answers.specs.declared.PivotChoice.the-variants.{Largest, Listed}
 use Rattle.answers.specs.declared.RunReason.{RunReason}
 use Rattle.answers.specs.declared.RunReason.the-variants.{Limits, Starts, Column, Order, Diagonal, Stores, OtherPlan, Lending, Values, RowList, NoPivot, NotFinite}
 use Rattle.answers.specs.declared.RunOutcome.{RunOutcome}
 use Rattle.answers.specs.declared.RunOutcome.the-variants.{Finished, Stopped}
 use Rattle.answers.specs.declared.RunAnswer.{RunAnswer}
+
+-- Document 01, "Elimination": the pivot row is the one "with the largest magnitude in column k (..); or row p_k of a given list".
+unfoldable pub chosenBy : PivotChoice → List ℕ → Choice
+chosenBy Largest rows = largest
+chosenBy Listed rows = listed rows
 
 -- Document 01, "Elimination": "A run may be cut to its first s steps, without back substitution".
 unfoldable pub extentOf : Extent → RunExtent

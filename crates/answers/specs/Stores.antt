@@ -4,17 +4,18 @@ use mathlib.Core.Path.{_≡_}
 use Prim.Native.Nat.{ℕ}
 use lib.ListN.{length}
 use Rattle.foundation.specs.Answer.{workStore}
-use Rattle.foundation.specs.PlanCall.{PlanStores, LentPlan, WorkSizes}
+use Rattle.foundation.specs.PlanCall.{PlanStores, SideStores, LentPlan, WorkSizes}
 use Rattle.answers.specs.Answers.{countsIn}
 use Rattle.answers.specs.declared.PlanCounts.{PlanCounts}
+
+-- the three stores of a side, as lent
+abbrev pub sideStores : (subs starts slots : List ℕ) → SideStores
+sideStores subs starts slots = record { subs = subs; starts = starts; slotStarts = slots }
 
 -- the six stores of a plan, as lent
 abbrev pub planStores : (lSubs lStarts lSlots uSubs uStarts uSlots : List ℕ) → PlanStores
 planStores lSubs lStarts lSlots uSubs uStarts uSlots =
-    record {
-      lowerSide = record { subs = lSubs; starts = lStarts; slotStarts = lSlots };
-      upperSide = record { subs = uSubs; starts = uStarts; slotStarts = uSlots };
-    }
+    record { lowerSide = sideStores lSubs lStarts lSlots; upperSide = sideStores uSubs uStarts uSlots }
 
 -- a lent plan
 abbrev pub lentPlan : PlanCounts → PlanStores → LentPlan

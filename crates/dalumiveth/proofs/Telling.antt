@@ -11,43 +11,43 @@ use Rattle.foundation.specs.Answer.{Answer}
 use Rattle.foundation.specs.Pattern.{Lent}
 use Rattle.foundation.specs.PlanCall.{PlanStores, Counts}
 use Rattle.foundation.specs.Printing.{printed}
-use Rattle.foundation.specs.Reference.{Choice, Extent}
+use Rattle.foundation.specs.Reference.{Extent}
 use Rattle.foundation.specs.RunCall.{Lending, RunStores}
 use Rattle.foundation.specs.Tally.{tallyAnswer}
 use Rattle.answers.specs.Answers.{answerOf, verifyAnswerOf, countsIn}
-use Rattle.answers.specs.Runs.{runAnswerOf, extentOf}
+use Rattle.answers.specs.Runs.{chosenBy, runAnswerOf, extentOf}
 use Rattle.answers.specs.Stores.{WorkStores, lentPlan}
 use Rattle.answers.specs.declared.Extent.{Extent as CallExtent}
+use Rattle.answers.specs.declared.PivotChoice.{PivotChoice}
 use Rattle.answers.specs.declared.PlanAnswer.{PlanAnswer}
 use Rattle.answers.specs.declared.PlanCounts.{PlanCounts}
 use Rattle.answers.specs.declared.RunAnswer.{RunAnswer}
 use Rattle.answers.specs.declared.VerifyAnswer.{VerifyAnswer}
 use Rattle.planning.specs.Calls.{PlanKept, VerifyKept}
-use Rattle.elimination.specs.Calls.{chosenBy, RunWork, RunKept}
-use Rattle.elimination.specs.declared.PivotChoice.{PivotChoice}
-use Rattle.tally.specs.Calls.{answerOf as tallyAnswerOf}
+use Rattle.elimination.specs.Calls.{RunWork, RunKept}
+use Rattle.tally.specs.Calls.{tallyAnswerOf}
 use Rattle.tally.specs.declared.TallyAnswer.{TallyAnswer}
-use Rattle.numbers.specs.Numbered.{refusalNumber, planNumbers, verifyNumbers, runNumbers, tallyNumbers, laid, countsFrom}
-use Rattle.numbers.proofs.Laid.{laid-whole, laid-none}
+use Rattle.numbers.specs.Numbered.{refusalNumber, planNumbers, verifyNumbers, runNumbers, tallyNumbers, cutOrPadded, countsFrom}
+use Rattle.numbers.proofs.CutOrPadded.{cut-or-padded-whole, cut-or-padded-none}
 use Rattle.dalumiveth.specs.Calls.{lentFrom, PlanTold, VerifyTold, RunTold, TallyTold, wholly, JobTold}
 
 -- what a telling function ensures of an answer, given what the answer is
 module _ {A : Type 0} (shown : Answer A → List ℕ) (r : ℕ) (answer answer′ : List ℕ) (a b : Answer A) (same : a ≡ b)
-    (told : (r ≡ refusalNumber a) × (answer′ ≡ laid (length answer) (shown a))) where
+    (told : (r ≡ refusalNumber a) × (answer′ ≡ cutOrPadded (length answer) (shown a))) where
   returned-is : r ≡ refusalNumber b
   returned-is = told .0 ∙ ap refusalNumber same
 
-  told-is : answer′ ≡ laid (length answer) (shown b)
-  told-is = told .1 ∙ ap (λ (x : Answer A). laid (length answer) (shown x)) same
+  told-is : answer′ ≡ cutOrPadded (length answer) (shown b)
+  told-is = told .1 ∙ ap (λ (x : Answer A). cutOrPadded (length answer) (shown x)) same
 
 pub plan-told : (r most : ℕ) (p : Lent) (stores stores′ : PlanStores) (scratch scratch′ : WorkStores) (answer answer′ : List ℕ) (a : PlanAnswer)
     → PlanKept a most p stores stores′ scratch scratch′
-    → (r ≡ refusalNumber (answerOf a)) × (answer′ ≡ laid (length answer) (planNumbers (answerOf a)))
+    → (r ≡ refusalNumber (answerOf a)) × (answer′ ≡ cutOrPadded (length answer) (planNumbers (answerOf a)))
     → PlanTold r most p stores stores′ scratch scratch′ answer answer′
 plan-told r most p stores stores′ scratch scratch′ answer answer′ a k t =
     record {
       returned = returned-is planNumbers r answer answer′ _ _ (k .answer) t;
-      told = told-is planNumbers r answer answer′ _ _ (k .answer) t;
+      numbers = told-is planNumbers r answer answer′ _ _ (k .answer) t;
       results = k .results;
       work = k .work;
     }
@@ -55,58 +55,58 @@ plan-told r most p stores stores′ scratch scratch′ answer answer′ a k t =
 pub verify-told : (r most : ℕ) (p : Lent) (counts : List ℕ) (c : PlanCounts) (stores : PlanStores) (scratch scratch′ : WorkStores) (answer answer′ : List ℕ) (a : VerifyAnswer)
     → countsIn c ≡ countsFrom counts
     → VerifyKept a most p (lentPlan c stores) scratch scratch′
-    → (r ≡ refusalNumber (verifyAnswerOf a)) × (answer′ ≡ laid (length answer) (verifyNumbers (verifyAnswerOf a)))
+    → (r ≡ refusalNumber (verifyAnswerOf a)) × (answer′ ≡ cutOrPadded (length answer) (verifyNumbers (verifyAnswerOf a)))
     → VerifyTold r most p (lentFrom counts stores) scratch scratch′ answer answer′
 verify-told r most p counts c stores scratch scratch′ answer answer′ a e kept t =
     let k = subst (λ (n : Counts). VerifyKept a most p (record { counts = n; stores = stores }) scratch scratch′) e kept in
     record {
       returned = returned-is verifyNumbers r answer answer′ _ _ (k .answer) t;
-      told = told-is verifyNumbers r answer answer′ _ _ (k .answer) t;
+      numbers = told-is verifyNumbers r answer answer′ _ _ (k .answer) t;
       work = k .work;
     }
 
-pub run-told : (r most : ℕ) (p : Lent) (counts : List ℕ) (c : PlanCounts) (stores : PlanStores) (rows : List ℕ) (by : PivotChoice) (choice : Choice) (extent : Extent)
+pub run-told : (r most : ℕ) (p : Lent) (counts : List ℕ) (c : PlanCounts) (stores : PlanStores) (rows : List ℕ) (by choice : PivotChoice) (extent : Extent)
     (x : CallExtent) (lending : Lending) (results′ : RunStores) (scratch scratch′ : RunWork) (answer answer′ : List ℕ) (a : RunAnswer)
-    → countsIn c ≡ countsFrom counts → chosenBy by rows ≡ choice → extentOf x ≡ extent
+    → countsIn c ≡ countsFrom counts → by ≡ choice → extentOf x ≡ extent
     → RunKept a most p (lentPlan c stores) (chosenBy by rows) (extentOf x) lending results′ scratch scratch′
-    → (r ≡ refusalNumber (runAnswerOf a)) × (answer′ ≡ laid (length answer) (runNumbers (runAnswerOf a)))
-    → RunTold r most p (lentFrom counts stores) choice extent lending results′ scratch scratch′ answer answer′
+    → (r ≡ refusalNumber (runAnswerOf a)) × (answer′ ≡ cutOrPadded (length answer) (runNumbers (runAnswerOf a)))
+    → RunTold r most p (lentFrom counts stores) (chosenBy choice rows) extent lending results′ scratch scratch′ answer answer′
 run-told r most p counts c stores rows by choice extent x lending results′ scratch scratch′ answer answer′ a e g f kept t =
     let i = subst (λ (n : Counts). RunKept a most p (record { counts = n; stores = stores }) (chosenBy by rows) (extentOf x) lending results′ scratch scratch′) e kept in
-    let j = subst (λ (y : Choice). RunKept a most p (lentFrom counts stores) y (extentOf x) lending results′ scratch scratch′) g i in
-    let k = subst (λ (y : Extent). RunKept a most p (lentFrom counts stores) choice y lending results′ scratch scratch′) f j in
+    let j = subst (λ (y : PivotChoice). RunKept a most p (lentFrom counts stores) (chosenBy y rows) (extentOf x) lending results′ scratch scratch′) g i in
+    let k = subst (λ (y : Extent). RunKept a most p (lentFrom counts stores) (chosenBy choice rows) y lending results′ scratch scratch′) f j in
     record {
       returned = returned-is runNumbers r answer answer′ _ _ (k .answer) t;
-      told = told-is runNumbers r answer answer′ _ _ (k .answer) t;
+      numbers = told-is runNumbers r answer answer′ _ _ (k .answer) t;
       results = k .results;
       work = k .work;
     }
 
 pub tally-told : (r sum updates : ℕ) (answer answer′ : List ℕ) (a : TallyAnswer) → tallyAnswerOf a ≡ tallyAnswer sum updates
-    → (r ≡ refusalNumber (tallyAnswerOf a)) × (answer′ ≡ laid (length answer) (tallyNumbers sum (tallyAnswerOf a)))
+    → (r ≡ refusalNumber (tallyAnswerOf a)) × (answer′ ≡ cutOrPadded (length answer) (tallyNumbers sum (tallyAnswerOf a)))
     → TallyTold r sum updates answer answer′
 tally-told r sum updates answer answer′ a e t =
     record {
       returned = returned-is (tallyNumbers sum) r answer answer′ _ _ e t;
-      told = told-is (tallyNumbers sum) r answer answer′ _ _ e t;
+      numbers = told-is (tallyNumbers sum) r answer answer′ _ _ e t;
     }
 
 -- the printed bytes, in a store that has room for all of them
 pub job-told : (count : ℕ) (job out out′ bytes : List ℕ) → count ≡ length (printed job) → bytes ≡ padded 0 8192 (printed job)
-    → count ≤ length out → out′ ≡ laid (length out) (take count bytes) → JobTold count job out out′
+    → count ≤ length out → out′ ≡ cutOrPadded (length out) (take count bytes) → JobTold count job out out′
 unfolding wholly
 job-told count job out out′ bytes e b h l =
     let front : take count bytes ≡ printed job = rw (b, e) (padded-take 0 8192 (printed job)) in
     let fits : length (printed job) ≤ length out = omega arith in
     record {
       returned = e;
-      text = l ∙ ap (laid (length out)) front ∙ laid-whole (length out) (printed job) fits ∙ rw (le-leb (length (printed job)) (length out) fits);
+      text = l ∙ ap (cutOrPadded (length out)) front ∙ cut-or-padded-whole (length out) (printed job) fits ∙ rw (le-leb (length (printed job)) (length out) fits);
     }
 
 -- in a store that has not
 pub job-too-long : (count : ℕ) (job out out′ : List ℕ) → count ≡ length (printed job)
-    → length out < count → out′ ≡ laid (length out) [] → JobTold count job out out′
+    → length out < count → out′ ≡ cutOrPadded (length out) [] → JobTold count job out out′
 unfolding wholly
 job-too-long count job out out′ e h l =
     let long : length out < length (printed job) = omega arith in
-    record { returned = e; text = l ∙ laid-none (length out) ∙ rw (lt-leb (length (printed job)) (length out) long) }
+    record { returned = e; text = l ∙ cut-or-padded-none (length out) ∙ rw (lt-leb (length (printed job)) (length out) long) }

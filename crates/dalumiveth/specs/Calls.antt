@@ -10,27 +10,29 @@ use Rattle.lists.specs.Functions.{padded}
 use Rattle.foundation.specs.Pattern.{Lent}
 use Rattle.foundation.specs.PlanCall.{PlanStores, LentPlan, planned, planAnswer, planLeaves, held}
 use Rattle.foundation.specs.Printing.{printed}
-use Rattle.foundation.specs.Reference.{Choice, largest, listed, Extent}
+use Rattle.foundation.specs.Reference.{Choice, Extent}
 use Rattle.foundation.specs.RunCall.{Lending, RunStores, ran, runAnswer, runLeaves}
 use Rattle.foundation.specs.Tally.{tallyAnswer}
 use Rattle.answers.specs.Answers.{verifyAnswer}
 use Rattle.answers.specs.Stores.{WorkStores, workSizes, WorkLeft}
+use Rattle.answers.specs.declared.PivotChoice.{PivotChoice}
+use Rattle.answers.specs.declared.PivotChoice.the-variants.{Largest, Listed}
 use Rattle.elimination.specs.Calls.{RunWork, runWorkSizes, RunWorkLeft}
-use Rattle.numbers.specs.Numbered.{refusalNumber, planNumbers, verifyNumbers, runNumbers, tallyNumbers, laid, countsFrom}
+use Rattle.numbers.specs.Numbered.{refusalNumber, planNumbers, verifyNumbers, runNumbers, tallyNumbers, cutOrPadded, countsFrom}
 
 -- a lent plan, its counts given as numbers
 abbrev pub lentFrom : List ℕ → PlanStores → LentPlan
 lentFrom counts stores = record { counts = countsFrom counts; stores = stores }
 
--- Document 01, "Elimination": "the pivot row is the one with the largest magnitude in column k (..); or row p_k of a given list": by the largest where `byList` is 0
-unfoldable pub choiceFrom : ℕ → List ℕ → Choice
-choiceFrom byList rows = cond (eqb byList 0) largest (listed rows)
+-- the choice of pivot rows, given as a number: by the largest entry where it is 0, else by the list
+unfoldable pub choiceFrom : ℕ → PivotChoice
+choiceFrom byList = cond (eqb byList 0) Largest Listed
 
 pub record PlanTold (r most : ℕ) (p : Lent) (stores stores′ : PlanStores) (scratch scratch′ : WorkStores) (answer answer′ : List ℕ) : Type 0 where
   -- 0, or the refusal's number
   pub returned : r ≡ refusalNumber (planAnswer p (planned most p stores (workSizes scratch)))
   -- the counts, or the refusal
-  pub told : answer′ ≡ laid (length answer) (planNumbers (planAnswer p (planned most p stores (workSizes scratch))))
+  pub numbers : answer′ ≡ cutOrPadded (length answer) (planNumbers (planAnswer p (planned most p stores (workSizes scratch))))
   -- the plan and zeros behind it, or zeros throughout
   pub results : stores′ ≡ planLeaves p (planned most p stores (workSizes scratch)) stores
   -- zeros
@@ -39,13 +41,13 @@ pub record PlanTold (r most : ℕ) (p : Lent) (stores stores′ : PlanStores) (s
 pub record VerifyTold (r most : ℕ) (p : Lent) (q : LentPlan) (scratch scratch′ : WorkStores) (answer answer′ : List ℕ) : Type 0 where
   pub returned : r ≡ refusalNumber (verifyAnswer (held most p q (workSizes scratch)))
   -- that it is this pattern's plan, or the refusal
-  pub told : answer′ ≡ laid (length answer) (verifyNumbers (verifyAnswer (held most p q (workSizes scratch))))
+  pub numbers : answer′ ≡ cutOrPadded (length answer) (verifyNumbers (verifyAnswer (held most p q (workSizes scratch))))
   pub work : WorkLeft scratch scratch′
 
 pub record RunTold (r most : ℕ) (p : Lent) (q : LentPlan) (choice : Choice) (extent : Extent) (lending : Lending) (results′ : RunStores) (scratch scratch′ : RunWork) (answer answer′ : List ℕ) : Type 0 where
   pub returned : r ≡ refusalNumber (runAnswer (ran most p q (runWorkSizes scratch) choice extent lending))
   -- the updates, or the refusal
-  pub told : answer′ ≡ laid (length answer) (runNumbers (runAnswer (ran most p q (runWorkSizes scratch) choice extent lending)))
+  pub numbers : answer′ ≡ cutOrPadded (length answer) (runNumbers (runAnswer (ran most p q (runWorkSizes scratch) choice extent lending)))
   -- slots, diagonal, solution and pivot rows with zeros behind them, or zeros throughout
   pub results : results′ ≡ runLeaves p lending (ran most p q (runWorkSizes scratch) choice extent lending)
   pub work : RunWorkLeft scratch scratch′
@@ -53,7 +55,7 @@ pub record RunTold (r most : ℕ) (p : Lent) (q : LentPlan) (choice : Choice) (e
 pub record TallyTold (r sum updates : ℕ) (answer answer′ : List ℕ) : Type 0 where
   pub returned : r ≡ refusalNumber (tallyAnswer sum updates)
   -- 0, 0 and the new sum, or 19, 0 and the old one
-  pub told : answer′ ≡ laid (length answer) (tallyNumbers sum (tallyAnswer sum updates))
+  pub numbers : answer′ ≡ cutOrPadded (length answer) (tallyNumbers sum (tallyAnswer sum updates))
 
 -- what a store of `room` places holds of a text: all of it and zeros behind it, or zeros throughout if it is too long
 unfoldable pub wholly : ℕ → List ℕ → List ℕ

@@ -1,6 +1,7 @@
 // `elimination::run` for callers in other languages.
 ghost use Rattle.foundation.specs.Pattern.{lent};
 ghost use Rattle.answers.specs.RunStores.{lendingOf, runStores};
+ghost use Rattle.answers.specs.Runs.{chosenBy};
 ghost use Rattle.answers.specs.Stores.{planStores};
 ghost use Rattle.elimination.specs.Calls.{runWork};
 ghost use Rattle.numbers.specs.Numbered.{extentFrom};
@@ -49,7 +50,7 @@ pub extern "C" fn dalumiveth_run(
 ) -> usize
     ensures { λ r. ⌜ RunTold r most (lent n (now (starts .entry)) (now (columns .entry)))
         (lentFrom (now (counts .entry)) (planStores (now («l_subs» .entry)) (now («l_starts» .entry)) (now («l_slots» .entry)) (now («u_subs» .entry)) (now («u_starts» .entry)) (now («u_slots» .entry))))
-        (choiceFrom «by_list» (now (rows .entry))) (extentFrom cut steps) (lendingOf (now (values .entry)) (now (right .entry)) (now (l .entry)) (now (u .entry)) (now (d .entry)) (now (x .entry)) (now (pivots .entry)))
+        (chosenBy (choiceFrom «by_list») (now (rows .entry))) (extentFrom cut steps) (lendingOf (now (values .entry)) (now (right .entry)) (now (l .entry)) (now (u .entry)) (now (d .entry)) (now (x .entry)) (now (pivots .entry)))
         (runStores (now (l .exit)) (now (u .exit)) (now (d .exit)) (now (x .exit)) (now (pivots .exit)))
         (runWork (now («row_heads» .entry)) (now («row_links» .entry)) (now («set_heads» .entry)) (now («set_links» .entry)) (now (list .entry)) (now (spare .entry)) (now (copy .entry)) (now (dense .entry)))
         (runWork (now («row_heads» .exit)) (now («row_links» .exit)) (now («set_heads» .exit)) (now («set_links» .exit)) (now (list .exit)) (now (spare .exit)) (now (copy .exit)) (now (dense .exit)))

@@ -1,5 +1,4 @@
 -- What the calls of the elimination answer and leave in the lent stores.
-use mathlib.Core.Bool.{Bool, true, false}
 use mathlib.Core.List.{List, [], _∷_}
 use mathlib.Core.Path.{_≡_}
 use Prim.Native.Nat.{ℕ}
@@ -9,23 +8,11 @@ use Rattle.foundation.specs.Answer.{workStore}
 use Rattle.foundation.specs.Numbers.{plusZero}
 use Rattle.foundation.specs.Pattern.{Lent}
 use Rattle.foundation.specs.PlanCall.{LentPlan, WorkSizes}
-use Rattle.foundation.specs.Reference.{Choice, largest, listed, Extent}
+use Rattle.foundation.specs.Reference.{Choice, Extent}
 use Rattle.foundation.specs.RunCall.{Lending, RunStores, ran, runAnswer, runLeaves}
 use Rattle.answers.specs.Stores.{WorkStores, workStores, WorkLeft}
 use Rattle.answers.specs.Runs.{runAnswerOf}
 use Rattle.answers.specs.declared.RunAnswer.{RunAnswer}
-use Rattle.elimination.specs.declared.PivotChoice.{PivotChoice}
-use Rattle.elimination.specs.declared.PivotChoice.the-variants.{Largest, Listed}
-
--- whether a list is given
-unfoldable pub byList : PivotChoice → Bool
-byList Largest = false
-byList Listed = true
-
--- Document 01, "Elimination": the pivot row is the one "with the largest magnitude in column k (..); or row p_k of a given list".
-unfoldable pub chosenBy : PivotChoice → List ℕ → Choice
-chosenBy Largest rows = largest
-chosenBy Listed rows = listed rows
 
 -- The work stores of a run: planning's six, and two of f64.
 pub record RunWork : Type 0 where

@@ -1,35 +1,17 @@
 // The elimination in planned slots: a run by the largest entry or by a given list of rows, whole or cut to its first steps.
 //
 // A run goes by a lent plan. That it is this pattern's plan is what `planning::verify` says, and nothing else of planning is used.
-ghost use mathlib.Core.Path.{_≡_};
 ghost use Rattle.foundation.specs.Pattern.{lent};
 ghost use Rattle.answers.specs.Stores.{planStores, lentPlan};
-ghost use Rattle.answers.specs.Runs.{extentOf};
+ghost use Rattle.answers.specs.Runs.{chosenBy, extentOf};
 ghost use Rattle.answers.specs.RunStores.{lendingOf, runStores};
-ghost use Rattle.elimination.specs.Calls.{byList, chosenBy, runWork, RunKept};
+ghost use Rattle.elimination.specs.Calls.{runWork, RunKept};
 use answers::Extent;
+use answers::PivotChoice;
 use answers::PlanCounts;
 use answers::RunAnswer;
-use inner_answering::run_verified;
 use planning::verify;
-
-// Which row is the pivot row of a step.
-pub enum PivotChoice {
-    // The row with the largest magnitude in the step's column, the lowest row number if equal.
-    Largest,
-    // Row p_k of a given list.
-    Listed,
-}
-
-// Whether a list is given.
-fn by_list(choice: PivotChoice) -> bool
-    ensures { λ r. ⌜ r ≡ byList choice ⌝ }
-{
-    match choice {
-        PivotChoice::Largest => false,
-        PivotChoice::Listed => true,
-    }
-}
+use run_call::run_verified;
 
 // A run. Its pivot rows are chosen by the largest entry, and `rows` is not read, or by the list `rows`, p_k at place k-1. Result stores: the slots of L and U
 // (no fewer than planned), the diagonal, the solution and the pivot rows (n places each). Work stores: planning's six, `copy` of n places, `dense` of n+1.
@@ -71,7 +53,6 @@ pub fn run(
         (runWork (now («row_heads» .entry)) (now («row_links» .entry)) (now («set_heads» .entry)) (now («set_links» .entry)) (now (list .entry)) (now (spare .entry)) (now (copy .entry)) (now (dense .entry)))
         (runWork (now («row_heads» .exit)) (now («row_links» .exit)) (now («set_heads» .exit)) (now («set_links» .exit)) (now (list .exit)) (now (spare .exit)) (now (copy .exit)) (now (dense .exit))) ⌝ }
 {
-    let listed = by_list(choice);
     let verified = verify(
         most,
         n,
@@ -105,7 +86,7 @@ pub fn run(
         u_slots,
         values,
         right,
-        listed,
+        choice,
         rows,
         extent,
         l,

@@ -1,14 +1,13 @@
 -- What planning leaves in its stores is the plan that a later call compares it with.
 use mathlib.Core.Bool.{Bool, true, false, not, cond, _&&_}
-use mathlib.Core.List.{List, [], _∷_}
 use mathlib.Core.Path.{_≡_, refl, sym, ap, _∙_}
 use Prim.Native.Nat.{ℕ, zero, suc, _≤_}
 use native.Mathlib.Omega.{arith}
 use lib.Dec.{eqb}
 use lib.ListN.{length, take}
 use borrow.Author.Tests.{eq-eqb, eqb-true}
-use Rattle.lists.specs.Functions.{same, padded}
-use Rattle.lists.proofs.Members.{by-test, and-left, and-right, and-both}
+use Rattle.lists.specs.Functions.{padded}
+use Rattle.lists.proofs.Members.{by-test, and-left, and-right, and-both, same-self}
 use Rattle.lists.proofs.Places.{padded-take, padded-full, length-padded}
 use Rattle.foundation.specs.Answer.{Answer, refused, granted, refuseIf, andThen, resultStore}
 use Rattle.foundation.specs.Claims.{PlanAccepted}
@@ -20,15 +19,6 @@ use Rattle.foundation.specs.Subscripts.{shared, startsStore, roomFault}
 use Rattle.foundation.proofs.Alike.{judged-passes}
 use Rattle.foundation.proofs.Room.{room-same, granted-fits}
 use Rattle.foundation.proofs.Starts.{length-starts, length-slot-starts}
-
--- a list is the same as itself
-same-self : (xs : List ℕ) → same xs xs ≡ true
-unfolding same
-same-self [] = refl
-same-self (x ∷ xs) = rw (eq-eqb x x refl, same-self xs)
-
-same-of : (xs ys : List ℕ) → xs ≡ ys → same xs ys ≡ true
-same-of xs ys e = rw e (same-self ys)
 
 -- the counts are their own
 counts-same : (c : Counts) → sameCounts c c ≡ true
@@ -46,11 +36,11 @@ module _ (p : Lent) (s : Planning) (side : Side) (before : SideStores) (sized : 
   slots-long = eqb-true _ _ (and-right (eqb (length (before .starts)) (p .n)) _ sized)
 
   -- the starts fill their stores
-  starts-left : startsAfter side (p .n) (length (before .starts)) (granted s) ≡ startsStore s side (p .n)
+  pub starts-left : startsAfter side (p .n) (length (before .starts)) (granted s) ≡ startsStore s side (p .n)
   unfolding startsAfter resultStore
   starts-left = rw starts-long (ap (λ (room : ℕ). padded 0 room (startsStore s side (p .n))) (sym (length-starts s side (p .n))) ∙ padded-full 0 (startsStore s side (p .n)))
 
-  slots-left : slotStartsAfter side (p .n) (length (before .slotStarts)) (granted s) ≡ slotStarts s side (p .n)
+  pub slots-left : slotStartsAfter side (p .n) (length (before .slotStarts)) (granted s) ≡ slotStarts s side (p .n)
   unfolding slotStartsAfter resultStore
   slots-left = rw slots-long (ap (λ (room : ℕ). padded 0 room (slotStarts s side (p .n))) (sym (length-slot-starts s side (p .n))) ∙ padded-full 0 (slotStarts s side (p .n)))
 
@@ -65,12 +55,12 @@ module _ (p : Lent) (s : Planning) (side : Side) (before : SideStores) (sized : 
       rw (starts-left, slots-left, same-self (startsStore s side (p .n)), same-self (slotStarts s side (p .n)), padded-take 0 (length (before .subs)) (subscripts s side (p .n))) (same-self (subscripts s side (p .n)))
 
 -- what a call that plans was asked passes 1 to 6
-record Asked (most : ℕ) (p : Lent) (stores : PlanStores) (work : WorkSizes) (s : Planning) : Type 0 where
-  passes : patternFault most p ≡ 0
-  sized : sizesFit p stores work ≡ true
-  is : s ≡ plan (patternOf p)
+pub record Asked (most : ℕ) (p : Lent) (stores : PlanStores) (work : WorkSizes) (s : Planning) : Type 0 where
+  pub passes : patternFault most p ≡ 0
+  pub sized : sizesFit p stores work ≡ true
+  pub is : s ≡ plan (patternOf p)
 
-granted-asked : (most : ℕ) (p : Lent) (stores : PlanStores) (work : WorkSizes) (s : Planning) → planned most p stores work ≡ granted s → Asked most p stores work s
+pub granted-asked : (most : ℕ) (p : Lent) (stores : PlanStores) (work : WorkSizes) (s : Planning) → planned most p stores work ≡ granted s → Asked most p stores work s
 unfolding planned judged andThen refuseIf
 granted-asked most p stores work s e =
     by-test (eqb (patternFault most p) 0)

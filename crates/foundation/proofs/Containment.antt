@@ -1,6 +1,6 @@
 -- The slots suffice: lists that are closed for a pattern keep every occupied place of an elimination in a slot. Said of sets of places and of
 -- steps on them, so that one theorem serves the free elimination ("nonzero") and the run in floats ("bits other than +0's").
-use mathlib.Core.Bool.{Bool, true, false, _&&_, _||_, or-true, false≢true}
+use mathlib.Core.Bool.{Bool, true, false, _&&_, or-true, false≢true}
 use mathlib.Core.List.{List, [], _∷_}
 use mathlib.Core.Logic.{_⊎_, inl, inr}
 use mathlib.Core.Path.{_≡_, refl, sym, _∙_}
@@ -11,7 +11,8 @@ use lib.Dec.{eqb, ltb, leb}
 use borrow.Author.Tests.{eqb-true, ltb-true, ltb-false, leb-true, eq-eqb, lt-ltb, le-leb}
 use Rattle.lists.specs.Functions.{keep}
 use Rattle.lists.specs.Sets.{member, first, leastAbove}
-use Rattle.foundation.specs.Closed.{Closed, Places, Involved, StepOn}
+use Rattle.lists.proofs.Members.{by-test, or-true-cases}
+use Rattle.foundation.specs.Closed.{Closed, Places, Involved, StepOn, Ahead, Held}
 use Rattle.foundation.specs.Pattern.{Pattern, present}
 use Rattle.foundation.specs.Slots.{slotIn}
 
@@ -20,15 +21,6 @@ use Rattle.foundation.specs.Slots.{slotIn}
 and-true-parts : (a b : Bool) → a && b ≡ true → (a ≡ true) × (b ≡ true)
 and-true-parts true b e = (refl, e)
 and-true-parts false b e = absurd (false≢true e)
-
-or-true-cases : (a b : Bool) → a || b ≡ true → (a ≡ true) ⊎ (b ≡ true)
-or-true-cases true b e = inl refl
-or-true-cases false b e = inr e
-
--- a statement by the two cases of a test
-by-test : {P : Type 0} (b : Bool) → (b ≡ true → P) → (b ≡ false → P) → P
-by-test true f g = f refl
-by-test false f g = g refl
 
 -- Either a list has no member above k, or leastAbove gives one. (That it is the least of them is not needed.)
 abbrev Above : ℕ → List ℕ → Type 0
@@ -80,19 +72,6 @@ module _ (L U : ℕ → List ℕ) where
   slot-below : (i j : ℕ) → j ≤ i → member i (L j) ≡ true → slotIn L U i j ≡ true
   unfolding slotIn
   slot-below i j h m = elim (decLt j i) [ yes l ↦ simp (lt-ltb j i l, m, or-true) | no n ↦ slot-diagonal i j (omega arith) ]
-
--- ---- the invariant
-
--- Row i before step k: empty from column k on, or with a list that has the row, and every column in which it is occupied from k on.
-abbrev pub Ahead : (L U : ℕ → List ℕ) → ℕ → Places → ℕ → Type 0
-Ahead L U k occupied i =
-    ((j : ℕ) → k ≤ j → occupied i j ≡ true → ⊥)
-    ⊎ ((q : ℕ) × (k ≤ q) × (q ≤ i) × (member i (L q) ≡ true) × ((j : ℕ) → k ≤ j → occupied i j ≡ true → member j (U q) ≡ true))
-
--- The invariant before step k: each row from k on is as Ahead says, and what is occupied above row k or left of column k has a slot.
-pub record Held (p : Pattern) (L U : ℕ → List ℕ) (k : ℕ) (occupied : Places) : Type 0 where
-  pub ahead : (i : ℕ) → k ≤ i → Ahead L U k occupied i
-  pub done : (i j : ℕ) → occupied i j ≡ true → (i < k) ⊎ (j < k) → slotIn L U i j ≡ true
 
 module _ {p : Pattern} {L U : ℕ → List ℕ} (closed : Closed p L U) where
   -- ---- the chain

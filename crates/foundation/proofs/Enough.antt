@@ -11,6 +11,7 @@ use Rattle.lists.specs.Functions.{keep, empty}
 use Rattle.lists.specs.Sets.{member, Ascending}
 use Rattle.lists.proofs.Members.{by-test}
 use Rattle.lists.proofs.Order.{ascending-length, ascending-keep, ascending-raise, member-low}
+use Rattle.lists.proofs.Small.{less-one}
 use Rattle.foundation.specs.Answer.{granted, refuseIf, andThen}
 use Rattle.foundation.specs.Claims.{RoomEnough, SlotsEnough}
 use Rattle.foundation.specs.Facts.{Plannable, PlanFacts}
@@ -39,9 +40,6 @@ triangle-twice (suc (suc m)) =
     let before : 2 * triangle (suc m) ≡ suc m * m = triangle-twice (suc m) ∙ ap (λ (v : ℕ). suc m * v) (less-one m) in
     let wide : suc (suc m) * suc m ≡ suc m * m + suc m + suc m = suc-mul (suc m) (suc m) ∙ ap (λ (v : ℕ). v + suc m) (mul-suc (suc m) m) in
     rw (less-one (suc m), wide, ← before) (omega arith)
-  where
-    less-one : (v : ℕ) → suc v - 1 ≡ v
-    less-one v = omega arith
 
 module _ (s : Planning) (side : Side) (n : ℕ) (ascends : (k : ℕ) → Ascending (suc k) (kept s side k)) (bounded : (k x : ℕ) → member x (kept s side k) ≡ true → x ≤ n) where
   -- a kept list has at most one member for each number behind its step
@@ -63,7 +61,7 @@ module _ (s : Planning) (side : Side) (n : ℕ) (ascends : (k : ℕ) → Ascendi
   slots-within = omega (arith, slots-few n 0 (omega arith))
 
 -- a step adds at most its list
-added-few : (s : Planning) (side : Side) (sh : Shared) (k : ℕ) → length (addedAt s side sh k) ≤ length (kept s side (suc k))
+pub added-few : (s : Planning) (side : Side) (sh : Shared) (k : ℕ) → length (addedAt s side sh k) ≤ length (kept s side (suc k))
 unfolding addedAt
 added-few s side sh k =
     by-test (empty (kept s side (suc k))) (λ e. rw e (omega arith))

@@ -13,18 +13,18 @@ use lib.Seq.{getD-append-add}
 use borrow.Author.Tests.{leb-true}
 use Rattle.lists.proofs.Members.{by-test, and-left, and-right}
 use Rattle.foundation.specs.Claims.{ZeroOutside}
-use Rattle.foundation.specs.Closed.{Closed}
+use Rattle.foundation.specs.Closed.{Closed, marked, Held}
 use Rattle.foundation.specs.Facts.{Plannable, PlanFacts}
-use Rattle.foundation.specs.Numbers.{plusZero, mayPivot}
+use Rattle.foundation.specs.Numbers.{plusZero, mayPivot, isPlusZero}
 use Rattle.foundation.specs.Pattern.{Lent, Pattern, present, patternOf, patternFault}
 use Rattle.foundation.specs.Plan.{plan}
 use Rattle.foundation.specs.Reference.{Choice, Extent, whole, cut, stepsOf, pivotRow, notFinite, Going, Course, going, stopped, stepped, soundWith, stepWith, step, running, starting, solvedRow, back, solved, ended, reference}
 use Rattle.foundation.specs.RunCall.{choiceFits, extentFits, orderFits}
 use Rattle.foundation.specs.Slots.{slotIn, hasSlot}
 use Rattle.foundation.specs.Square.{Square, placed}
-use Rattle.foundation.proofs.Containment.{Held, held-at-start, held-after-step, contained}
-use Rattle.foundation.proofs.FreeSteps.{marked, marked-present, columns-from-one}
-use Rattle.foundation.proofs.FloatSteps.{isPlusZero, plus-zero-is, is-plus-zero, stepped-on, pivot-cases}
+use Rattle.foundation.proofs.Containment.{held-at-start, held-after-step, contained}
+use Rattle.foundation.proofs.FreeSteps.{marked-present, columns-from-one}
+use Rattle.foundation.proofs.FloatSteps.{plus-zero-is, is-plus-zero, stepped-on, pivot-cases}
 
 -- ---- a step that was done
 

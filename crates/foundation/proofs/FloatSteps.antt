@@ -1,5 +1,5 @@
 -- The reference run stays in the slots of lists that are closed: each step that it does is a step on the places whose bits are not +0's.
-use mathlib.Core.Bool.{Bool, true, false, _&&_, _||_, false≢true}
+use mathlib.Core.Bool.{true, false, _&&_, _||_, false≢true}
 use mathlib.Core.List.{List, [], _∷_}
 use mathlib.Core.Logic.{_⊎_, inl, inr}
 use mathlib.Core.Path.{_≡_, refl, sym, ap, _∙_}
@@ -13,25 +13,15 @@ use lib.ListN.{length, getD}
 use borrow.Author.Tests.{eqb-true, leb-true, eq-eqb, ne-eqb, lt-ltb, le-ltb, not-true}
 use Rattle.lists.specs.Sets.{member, between}
 use Rattle.lists.proofs.Members.{by-test, and-left, and-right, or-right, fails, member-head, member-tail, between-low, between-high}
-use Rattle.foundation.specs.Closed.{StepOn}
-use Rattle.foundation.specs.Numbers.{plusZero, isZero, magnitude, mayPivot}
+use Rattle.foundation.specs.Closed.{StepOn, marked}
+use Rattle.foundation.specs.Numbers.{plusZero, isZero, magnitude, mayPivot, isPlusZero}
 use Rattle.foundation.specs.Pattern.{Pattern}
 use Rattle.foundation.specs.Reference.{Choice, largest, listed, better, best, pivotRow, multiplier, reduced, eliminated, Going, stepped}
 use Rattle.foundation.specs.RunCall.{rowsInRange, choiceFits}
 use Rattle.foundation.specs.Square.{Square, exchanged}
-use Rattle.foundation.proofs.FreeSteps.{marked, Clears, step-on}
+use Rattle.foundation.proofs.FreeSteps.{Clears, step-on}
 
 -- ---- +0
-
--- whether a number is +0, the bits
-unfoldable pub isPlusZero : Float → Bool
-isPlusZero nan = false
-isPlusZero (inf s) = false
-isPlusZero (fin true m e) = false
-isPlusZero (fin false (suc m) e) = false
-isPlusZero (fin false zero (pos (suc e))) = false
-isPlusZero (fin false zero (negsuc e)) = false
-isPlusZero (fin false zero (pos zero)) = true
 
 -- What passes the test is +0.
 pub plus-zero-is : (x : Float) → isPlusZero x ≡ true → x ≡ plusZero
@@ -83,6 +73,11 @@ reduced-left m u place z = rw z
 pub reduced-right : (m u place : Float) → isZero u ≡ true → reduced m u place ≡ place
 unfolding reduced
 reduced-right m u place z = rw (or-right (isZero m) (isZero u) z)
+
+-- The same, as the code asks it: where its test finds a zero, the old number is the reduced one.
+pub reduced-zero : (m u old : Float) → eq u (fin false 0 (pos 0)) ≡ true → old ≡ reduced m u old
+unfolding isZero plusZero
+reduced-zero m u old t = sym (reduced-right m u old t)
 
 module _ (k : ℕ) (square : Square Float) where
   -- Rows up to k stay.

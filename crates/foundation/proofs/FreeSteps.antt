@@ -1,6 +1,6 @@
 -- The free elimination stays in range and in the slots of lists that are closed: each step that is taken is a step on places, whatever
 -- numbers it brings. And it leaves the columns before its k.
-use mathlib.Core.Bool.{Bool, true, false, not, _&&_, false≢true}
+use mathlib.Core.Bool.{Bool, true, false, not, _&&_, false≢true, and-false}
 use mathlib.Core.List.{List, [], _∷_}
 use mathlib.Core.Logic.{_⊎_, inl, inr}
 use mathlib.Core.Path.{_≡_, refl, sym, ap, _∙_}
@@ -13,7 +13,7 @@ use borrow.Author.Tests.{eqb-true, eqb-false, leb-true, eq-eqb, ne-eqb, lt-ltb, 
 use Rattle.lists.specs.Sets.{member}
 use Rattle.lists.proofs.Members.{by-test, and-left, and-right}
 use Rattle.lists.proofs.Order.{member-low}
-use Rattle.foundation.specs.Closed.{Closed, Places, Involved, StepOn}
+use Rattle.foundation.specs.Closed.{Closed, Places, Involved, StepOn, Held, marked}
 use Rattle.foundation.specs.Claims.{SlotsSuffice, MultipliersStay}
 use Rattle.foundation.specs.Facts.{Plannable, PlanFacts}
 use Rattle.foundation.specs.Free.{FreeStep, FreeState, freeStart, taken, replaced, freeStep, freeRun}
@@ -21,7 +21,7 @@ use Rattle.foundation.specs.Pattern.{Lent, Pattern, present, patternOf, 
 use Rattle.foundation.specs.Plan.{plan}
 use Rattle.foundation.specs.Slots.{slotIn, hasSlot}
 use Rattle.foundation.specs.Square.{Square, swap, placed, exchanged}
-use Rattle.foundation.proofs.Containment.{Held, held-at-start, held-after-step, contained}
+use Rattle.foundation.proofs.Containment.{held-at-start, held-after-step, contained}
 use Rattle.foundation.proofs.Inside.{Inside, inside-after-step}
 
 -- ---- the exchange of two rows
@@ -74,10 +74,6 @@ swap-involved k p i before h o v =
     at-pivot = elim (decLt k p) [ yes l ↦ inr (l, o) | no n ↦ inl (omega arith) ]
 
 -- ---- a step in two halves
-
--- The places of a square that are not blank.
-abbrev pub marked {ℓ} : {A : Type ℓ} → (A → Bool) → Square A → Places
-marked blank square i j = not (blank (square i j))
 
 -- The second half of step k, from the square after the exchange to the square after the step: only rows below k that are marked in column
 -- k change, from column k on; there a place becomes marked only if it was, or row k is in its column, and in column k only if it was.
@@ -173,7 +169,7 @@ module _ {ℓ} {A : Type ℓ} (isZero : A → Bool) where
         spread = λ i j ki kj m.
             by-test (isZero (square k j))
             (λ z. by-test (ltb k i && not (isZero (square i k)))
-            (λ e. inl (rw (e, ne-eqb j k (omega arith), z, lt-ltb k j kj, and-none) at m))
+            (λ e. inl (rw (e, ne-eqb j k (omega arith), z, lt-ltb k j kj, and-false) at m))
             (λ e. inl (rw e at m)))
             inr;
         column = λ i ki m.
@@ -181,10 +177,6 @@ module _ {ℓ} {A : Type ℓ} (isZero : A → Bool) where
             (λ z. absurd (false≢true (sym (rw (lt-ltb k i ki, z) at m) ∙ z)))
             (λ z. z);
       }
-    where
-      and-none : (a : Bool) → a && false ≡ false
-      and-none true = refl
-      and-none false = refl
 
   -- A step that is taken has its k in the columns and in the rows, and is a step on places.
   pub taken-on :

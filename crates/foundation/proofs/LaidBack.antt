@@ -13,7 +13,7 @@ use borrow.Author.Tests.{eqb-true, eqb-false, ltb-true, ne-eqb, not-true}
 use Rattle.lists.specs.Functions.{chain}
 use Rattle.lists.specs.Sets.{member, run, upto, indexOf}
 use Rattle.lists.proofs.Members.{by-test, and-left, and-right, kept-in, kept-passes, in-keep}
-use Rattle.lists.proofs.Places.{upto-snoc, getD-map-run, index-at, index-below, chain-append, getD-chain}
+use Rattle.lists.proofs.Places.{upto-snoc, getD-map-run, index-at, index-below, chain-append, getD-chain, getD-mapped}
 use Rattle.foundation.specs.Claims.{ZeroOutside, LaidBack}
 use Rattle.foundation.specs.Facts.{Plannable, PlanFacts}
 use Rattle.foundation.specs.Numbers.{plusZero}
@@ -56,12 +56,6 @@ upto-split k (suc m) h =
           let e : m ≡ k = omega arith in
           ([], upto-snoc m ∙ rw e)
     ]
-
--- a place of mapped values that exists
-getD-mapped {ℓ} : {A : Type ℓ} (f : ℕ → A) (xs : List ℕ) (i : ℕ) (z : A) → i < length xs → getD (map f xs) i z ≡ f (getD xs i 0)
-getD-mapped f [] i z l = absurd (omega arith)
-getD-mapped f (x ∷ xs) zero z l = refl
-getD-mapped f (x ∷ xs) (suc i) z l = getD-mapped f xs i z (omega arith)
 
 module _ (s : Planning) (side : Side) where
   -- No list shows nothing.

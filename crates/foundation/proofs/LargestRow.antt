@@ -12,6 +12,7 @@ use lib.Ieee.Fits.{down-pos}
 use borrow.Author.Tests.{ltb-true, ltb-false, lt-ltb, le-ltb, eqb-true, eqb-false, not-true, not-false}
 use Rattle.lists.specs.Sets.{run, between}
 use Rattle.lists.proofs.Members.{by-test, and-left}
+use Rattle.lists.proofs.Small.{less-one}
 use Rattle.foundation.specs.Claims.{LargestFrom, LargestRow, ListedRow}
 use Rattle.foundation.specs.Numbers.{plusZero, isZero, finite, magnitude, mayPivot}
 use Rattle.foundation.specs.Reference.{better, best, pivotRow}
@@ -228,6 +229,3 @@ pub listed-row : ListedRow
 unfolding ListedRow pivotRow
 listed-row rows last zero entry low = absurd (omega arith)
 listed-row rows last (suc before) entry low = rw (less-one before) (λ e. rw e, λ e. rw e)
-  where
-    less-one : (v : ℕ) → suc v - 1 ≡ v
-    less-one v = omega arith

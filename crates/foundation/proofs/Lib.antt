@@ -10,6 +10,7 @@ pub mod Opening
 pub mod Starts
 pub mod Room
 pub mod Stores
+pub mod Bits
 pub mod Inside
 pub mod FreeSteps
 pub mod FreeLists
@@ -22,8 +23,11 @@ pub mod JobRoom
 pub mod Alike
 pub mod Enough
 pub mod Accepted
+pub mod StoresOpen
 pub mod PlannedRun
 pub mod LargestRow
+pub mod FiniteRun
+pub mod LargestSteps
 pub mod Theorems
 pub mod Open
 pub mod Marked

@@ -1,4 +1,4 @@
--- What a pattern that passes the judgement 1 to 5 is known to be.
+-- What a pattern that passes the judgement 1 to 5 is known to be, and that no fault has a number above 5.
 use mathlib.Core.Bool.{Bool, true, false, cond, _&&_, _||_, true≢false}
 use mathlib.Core.List.{List, [], _∷_}
 use mathlib.Core.Logic.{⊎-elim}
@@ -92,10 +92,40 @@ module _ (most : ℕ) (p : Lent) (passes : patternFault most p ≡ 0) where
     tall = omega arith;
   }
 
+-- ---- the numbers of the faults go to 5
+
+cond-le : (t : Bool) (a b c : ℕ) → a ≤ c → b ≤ c → cond t a b ≤ c
+cond-le true a b c x y = x
+cond-le false a b c x y = y
+
+first-le : (a b c : ℕ) → a ≤ c → b ≤ c → firstFault a b ≤ c
+unfolding firstFault
+first-le zero b c x y = y
+first-le (suc a) b c x y = x
+
+entries-small : (n before : ℕ) (cs : List ℕ) → entriesFault n before cs ≤ 5
+unfolding entriesFault
+entries-small n before [] = omega arith
+entries-small n before (c ∷ cs) =
+    cond-le (leb 1 c && leb c n) _ 3 5 (cond-le (ltb before c) _ 4 5 (entries-small n c cs) (omega arith)) (omega arith)
+
+rows-small : (p : Lent) (i left : ℕ) → rowsFault p i left ≤ 5
+unfolding rowsFault rowFault
+rows-small p i zero = omega arith
+rows-small p i (suc left) =
+    first-le (firstFault (entriesFault (p .n) 0 (rowOf p i)) (cond (member i (rowOf p i)) 0 5)) (rowsFault p (suc i) left) 5
+    (first-le _ _ 5 (entries-small (p .n) 0 (rowOf p i)) (cond-le (member i (rowOf p i)) 0 5 5 (omega arith) (omega arith)))
+    (rows-small p (suc i) left)
+
+-- No fault of a pattern has a number above 5.
+pub fault-small : (most : ℕ) (p : Lent) → patternFault most p ≤ 5
+unfolding patternFault
+fault-small most p = cond-le (tooLarge most p) 1 _ 5 (omega arith) (cond-le (startsFit p) _ 2 5 (rows-small p 1 (p .n)) (omega arith))
+
 -- ---- entries
 
 -- numbers that do not fall are none below the bound
-rising-low : (low : ℕ) (xs : List ℕ) (i : ℕ) → notFalling low xs ≡ true → i < length xs → low ≤ getD xs i 0
+pub rising-low : (low : ℕ) (xs : List ℕ) (i : ℕ) → notFalling low xs ≡ true → i < length xs → low ≤ getD xs i 0
 unfolding notFalling
 rising-low low [] i e h = absurd (omega arith)
 rising-low low (x ∷ xs) zero e h = leb-true low x (and-left (leb low x) (notFalling x xs) e)
@@ -103,7 +133,7 @@ rising-low low (x ∷ xs) (suc i) e h =
     omega (arith, leb-true low x (and-left (leb low x) (notFalling x xs) e), rising-low x xs i (and-right (leb low x) (notFalling x xs) e) (omega arith))
 
 -- nor is a later one below an earlier one
-rising : (low : ℕ) (xs : List ℕ) (i j : ℕ) → notFalling low xs ≡ true → i ≤ j → j < length xs → getD xs i 0 ≤ getD xs j 0
+pub rising : (low : ℕ) (xs : List ℕ) (i j : ℕ) → notFalling low xs ≡ true → i ≤ j → j < length xs → getD xs i 0 ≤ getD xs j 0
 unfolding notFalling
 rising low [] i j e l h = absurd (omega arith)
 rising low (x ∷ xs) zero zero e l h = omega arith

@@ -6,7 +6,7 @@ use Prim.Native.Nat.{ℕ, zero, suc, _+_, _-_, _≤_, _<_}
 use native.Mathlib.Decide.{decLe}
 use native.Mathlib.Omega.{arith}
 use lib.ListN.{length}
-use borrow.Author.Tests.{ltb-true, ltb-false, le-ltb, lt-ltb}
+use borrow.Author.Tests.{ltb-false, le-ltb, lt-ltb}
 use Rattle.lists.proofs.Members.{by-test}
 use Rattle.foundation.specs.Answer.{refused, granted}
 use Rattle.foundation.specs.Plan.{Planning, Side, lower, upper}
@@ -14,11 +14,6 @@ use Rattle.foundation.specs.Subscripts.{shared, short, roomFault}
 use Rattle.foundation.proofs.Opening.{length-grows}
 
 -- ---- one step
-
--- a store that is too short at a step has fewer places than the step needs
-pub short-true : (s : Planning) (side : Side) (room k : ℕ) → short s side room k ≡ true → room < length ((shared s side k) .store)
-unfolding short
-short-true s side room k e = ltb-true _ _ e
 
 -- a store that is not too short at a step holds what the step needs
 pub short-false : (s : Planning) (side : Side) (room k : ℕ) → short s side room k ≡ false → length ((shared s side k) .store) ≤ room

@@ -32,13 +32,6 @@ depends-on s s' side (suc k) h =
     let new : kept s side (suc k) ≡ kept s' side (suc k) = h .same-kept (suc k) (omega arith) in
     rw (depends-on s s' side k earlier, last, new, h .same-sole (suc k) (omega arith))
 
--- plannings that have the same kept lists up to k have the same number of slots after k steps
-pub slots-depend-on :
-    (s s' : Planning) (side : Side) (k : ℕ) → ((l : ℕ) → l ≤ k → kept s side l ≡ kept s' side l) → slotsOf s side k ≡ slotsOf s' side k
-unfolding slotsOf
-slots-depend-on s s' side zero h = refl
-slots-depend-on s s' side (suc k) h = rw (slots-depend-on s s' side k (λ l b. h l (omega arith)), h (suc k) (omega arith))
-
 -- ---- a value for each number of a run
 
 module _ {ℓ} {A : Type ℓ} where
@@ -93,11 +86,6 @@ module _ (s : Planning) (side : Side) where
   slot-start-at n zero h = refl
   slot-start-at n (suc q) h = getD-map-run (slotsOf s side) 1 n q 0 (omega arith) ∙ rw (one-add q)
 
-  -- the first places are the starts of the first lists
-  pub take-slot-starts : (n k : ℕ) → k ≤ n → take (suc k) (slotStarts s side n) ≡ slotStarts s side k
-  unfolding slotStarts upto
-  take-slot-starts n k h = rw (take-map-run (slotsOf s side) 1 n k h)
-
   -- one more step, one more start behind the others
   pub slot-starts-next : (n : ℕ) → slotStarts s side (suc n) ≡ slotStarts s side n ++ slotsOf s side (suc n) ∷ []
   unfolding slotStarts
@@ -114,10 +102,6 @@ module _ (s : Planning) (side : Side) where
   pub start-at : (n q : ℕ) → q < n → getD (startsStore s side n) q 0 ≡ (shared s side n) .start (suc q)
   unfolding startsStore upto
   start-at n q h = getD-map-run ((shared s side n) .start) 1 n q 0 h ∙ rw (one-add q)
-
-  -- place q has the start that step q + 1 gave, however many steps followed
-  pub start-at-once : (n q : ℕ) → q < n → getD (startsStore s side n) q 0 ≡ (shared s side (suc q)) .start (suc q)
-  start-at-once n q h = start-at n q h ∙ starts-stay s side (suc q) (suc q) n (omega arith) h
 
   -- the first places are the starts of the first lists
   pub take-starts : (n k : ℕ) → k ≤ n → take k (startsStore s side n) ≡ startsStore s side k

@@ -9,24 +9,16 @@ use lib.Dec.{eqb, ltb}
 use lib.ListN.{length}
 use borrow.Author.Tests.{eqb-true, eqb-false, ltb-true, lt-ltb}
 use Rattle.lists.specs.Functions.{update, total}
-use Rattle.lists.specs.Sets.{member, union, joinAll, from, leastAbove, upto, run}
-use Rattle.lists.proofs.Members.{by-test, or-left, or-right, or-true-cases, member-head, member-tail, member-cases, not-member-nil}
+use Rattle.lists.specs.Sets.{member, from, leastAbove, upto, run, Falling}
+use Rattle.lists.proofs.Members.{by-test, or-left, or-right, or-true-cases, member-head, member-tail, member-cases, not-member-nil, joinAll-cong}
 use Rattle.lists.proofs.Places.{update-same, update-other, upto-snoc, total-append}
 use Rattle.lists.proofs.Least.{least-nonzero-above}
 use Rattle.lists.proofs.Counting.{total-cong}
-use Rattle.lists.proofs.Once.{Falling, falling-weaken}
+use Rattle.lists.proofs.Once.{falling-weaken}
 use Rattle.foundation.specs.Pattern.{Pattern, column}
-use Rattle.foundation.specs.Plan.{Side, lower, upper, Planning, list, beforeSteps, unmetRows, fromRows, fromSteps, gathered, handOn, readsAt, turn, after, plan}
+use Rattle.foundation.specs.Plan.{Side, lower, upper, Planning, list, beforeSteps, unmetRows, fromRows, fromSteps, gathered, handOn, readsAt, turn, after}
 
 -- ---- a law of lists
-
--- sets that agree on the members of a list join to the same
-joinAll-cong : (f g : ℕ → List ℕ) (a is : List ℕ) → ((i : ℕ) → member i is ≡ true → f i ≡ g i) → joinAll f a is ≡ joinAll g a is
-unfolding joinAll
-joinAll-cong f g a [] agree = refl
-joinAll-cong f g a (i ∷ is) agree =
-    ap (λ (xs : List ℕ). joinAll f (union a xs) is) (agree i (member-head i is))
-    ∙ joinAll-cong f g (union a (g i)) is (λ j m. agree j (member-tail j i is m))
 
 -- what step k reads, said of the state after it or of any later one
 unfoldable pub readsOf : Pattern → Planning → ℕ → ℕ
@@ -147,12 +139,6 @@ module _ (p : Pattern) where
   pub list-none : (m : ℕ) (side : Side) → list (after p m) side 0 ≡ []
   list-none m side = list-frame m 0 0 side (omega arith) (omega arith) ∙ start-list side 0
 
-  -- No row is first met at a step not yet done.
-  pub first-later : (k l : ℕ) → k < l → after p k .firstMet l ≡ []
-  unfolding after beforeSteps
-  first-later zero l h = refl
-  first-later (suc k) l h = turn-first-other (suc k) (after p k) l (omega arith) ∙ first-later k l (omega arith)
-
   -- ---- the sets S
 
   -- A member of a set S is a step done, with more than one member in its L, whose least further member of U is the set's step.
@@ -199,11 +185,6 @@ module _ (p : Pattern) where
   S-falls (suc m) k = hand-falls (suc m) (gathered p (after p m) lower (suc m)) (gathered p (after p m) upper (suc m)) (after p m .S) k (S-falls m k)
 
   -- ---- the plan's equations
-
-  -- The plan is the state after the last step.
-  pub plan-after : plan p ≡ after p (p .n)
-  unfolding plan
-  plan-after = refl
 
   -- After any later step, the rows first met at a step are those that it found unmet.
   pub plan-first : (m k : ℕ) → k < m → after p m .firstMet (suc k) ≡ unmetRows p (after p k) (suc k)

@@ -1,5 +1,5 @@
 -- The theorems that a release rests on, in one place: most of every pattern that passes 1 to 5, some of any pattern or plan, as each says.
-use mathlib.Core.Bool.{not}
+use mathlib.Core.Bool.{true, not}
 use mathlib.Core.List.{[]}
 use mathlib.Core.Path.{_≡_, ap}
 use Prim.Native.Nat.{ℕ, _+_, _*_, _≤_}
@@ -10,8 +10,9 @@ use Rattle.lists.specs.Functions.{keep}
 use Rattle.foundation.specs.Pattern.{Lent, Pattern, patternOf, patternFault}
 use Rattle.foundation.specs.Plan.{Side, plan}
 use Rattle.foundation.specs.Subscripts.{kept}
+use Rattle.foundation.specs.RunCall.{Lending, allFinite, valueAt, rightAt}
 use Rattle.foundation.specs.Facts.{PlanFacts, Opens, sizesOf}
-use Rattle.foundation.specs.Claims.{FirstHalf, RunsOn, SlotsSuffice, MultipliersStay, ZeroOutside, LaidBack, OwnSlots, SlotsWithin, MetOnce, JobRoom, RunsAlike, ListedPivots, PivotsCounted, PlanAccepted, RoomEnough, SlotsEnough, PlannedRunsAlike, LargestRow, ListedRow}
+use Rattle.foundation.specs.Claims.{FirstHalf, RunsOn, SlotsSuffice, MultipliersStay, ZeroOutside, LaidBack, OwnSlots, SlotsWithin, MetOnce, JobRoom, RunsAlike, ListedPivots, PivotsCounted, PlanAccepted, RoomEnough, SlotsEnough, PlannedRunsAlike, LargestRow, ListedRow, StoresOpen, FiniteGiven, FiniteThroughout, LargestAtEveryStep}
 use Rattle.foundation.proofs.Passing.{passes-plannable, passes-entries}
 use Rattle.foundation.proofs.Steps.{list-none}
 use Rattle.foundation.proofs.PlanFacts.{plan-facts}
@@ -31,6 +32,9 @@ use Rattle.foundation.proofs.Accepted
 use Rattle.foundation.proofs.Enough.{room-enough-from, slots-enough-from}
 use Rattle.foundation.proofs.PlannedRun.{planned-runs-alike-from}
 use Rattle.foundation.proofs.LargestRow
+use Rattle.foundation.proofs.StoresOpen.{stores-open-from}
+use Rattle.foundation.proofs.FiniteRun
+use Rattle.foundation.proofs.LargestSteps
 
 -- the plan's facts
 pub plan-has-its-facts : (most : ℕ) (p : Lent) → patternFault most p ≡ 0 → PlanFacts (patternOf p) (plan (patternOf p))
@@ -126,3 +130,18 @@ largest-row = LargestRow.largest-row
 
 pub listed-row : ListedRow
 listed-row = LargestRow.listed-row
+
+-- the stores that planning leaves open to the plan's kept lists
+pub stores-open : StoresOpen
+stores-open = stores-open-from subscripts-open
+
+-- a run of finite numbers that goes on is finite throughout; what 11 lets pass is finite
+pub finite-throughout : FiniteThroughout
+finite-throughout = FiniteRun.finite-throughout
+
+pub given-finite : (p : Lent) (w : Lending) → allFinite w ≡ true → FiniteGiven (patternOf p) (valueAt p (w .values)) (rightAt (w .right))
+given-finite = FiniteRun.given-finite
+
+-- so at every step its pivot row is the lowest of those with the largest magnitude, and 13 is given just where there is none
+pub largest-at-every-step : LargestAtEveryStep
+largest-at-every-step = LargestSteps.largest-at-every-step

@@ -4,23 +4,23 @@ use mathlib.Core.Bool.{Bool, true, false}
 use mathlib.Core.List.{List, _++_, map}
 use mathlib.Core.Logic.{_↔_}
 use mathlib.Core.Path.{_≡_}
-use Prim.Native.Nat.{ℕ, _-_, _*_, _≤_, _<_}
+use Prim.Native.Nat.{ℕ, _+_, _-_, _*_, _≤_, _<_}
 use lib.Dec.{eqb, ltb}
 use lib.Ieee.{Float, lt}
-use lib.ListN.{length, getD, take}
+use lib.ListN.{length, getD, take, drop}
 use Rattle.lists.specs.Functions.{keep, chain, padded}
 use Rattle.lists.specs.Sets.{upto}
 use Rattle.foundation.specs.Answer.{Answer, refused, granted, andThen}
-use Rattle.foundation.specs.Pattern.{Lent, Pattern, patternOf, patternFault, judged}
+use Rattle.foundation.specs.Pattern.{Lent, Pattern, present, patternOf, patternFault, judged}
 use Rattle.foundation.specs.Plan.{Planning, Side, plan, lower, upper}
-use Rattle.foundation.specs.Subscripts.{roomFault}
+use Rattle.foundation.specs.Subscripts.{kept, roomFault}
 use Rattle.foundation.specs.Slots.{Slot, none, onDiagonal, inSide, hasSlot, slotAt, slotsOf}
 use Rattle.foundation.specs.Numbers.{plusZero, finite, magnitude, mayPivot}
 use Rattle.foundation.specs.Square.{Square}
-use Rattle.foundation.specs.Reference.{Choice, largest, listed, Extent, whole, stepsOf, pivotRow, Going, Course, going, stopped, numberOf, reference}
+use Rattle.foundation.specs.Reference.{Choice, largest, listed, Extent, whole, cut, stepsOf, pivotRow, noPivot, Going, Course, going, stopped, numberOf, reference}
 use Rattle.foundation.specs.Shown.{shown, shownDiagonal, laid}
 use Rattle.foundation.specs.Free.{FreeStep, FreeState, freeStart, freeRun, freeAfter}
-use Rattle.foundation.specs.PlanCall.{PlanStores, LentPlan, WorkSizes, workFits, sizesFit, agrees, countsOf, planned, planLeaves, held}
+use Rattle.foundation.specs.PlanCall.{SideStores, PlanStores, LentPlan, WorkSizes, workFits, sizesFit, agrees, countsOf, planned, planLeaves, held}
 use Rattle.foundation.specs.RunCall.{Lending, lendingFits, allFinite, orderFits, valueAt, rightAt, Ran, ranWith, ran, runAnswer, RunStores, runLeaves}
 use Rattle.foundation.specs.Job.{Job}
 use Rattle.foundation.specs.Printing.{jobRun}
@@ -269,3 +269,70 @@ ListedRow =
     → 1 ≤ k
     → (mayPivot (entry (getD rows (k - 1) 0)) ≡ true → pivotRow (listed rows) last k entry ≡ getD rows (k - 1) 0)
     × (mayPivot (entry (getD rows (k - 1) 0)) ≡ false → pivotRow (listed rows) last k entry ≡ 0)
+
+-- ---- the plan's stores
+
+-- A side of a plan of n steps opens in its stores. Document 01, "Shared subscripts": "Value slots run list after list without sharing": the first slot is 0, and the
+-- slots of step k begin where those of k-1 end, as many as the kept list of k has subscripts. "Each side has its own subscript store": the part of it from the start of
+-- k on, as long as k has slots, lies in the store and is the kept list of k. "places in stores from 0": the start of k stands at place k-1, as does that of its slots.
+pub record SideOpens (s : Planning) (side : Side) (n : ℕ) (q : SideStores) : Type 0 where
+  pub first : getD (q .slotStarts) 0 0 ≡ 0
+  pub slots : (k : ℕ) → (1 ≤ k) × (k ≤ n) → getD (q .slotStarts) k 0 ≡ getD (q .slotStarts) (k - 1) 0 + length (kept s side k)
+  pub inside : (k : ℕ) → (1 ≤ k) × (k ≤ n) → getD (q .starts) (k - 1) 0 + length (kept s side k) ≤ length (q .subs)
+  pub opens :
+      (k : ℕ) → (1 ≤ k) × (k ≤ n)
+      → take (getD (q .slotStarts) k 0 - getD (q .slotStarts) (k - 1) 0) (drop (getD (q .starts) (k - 1) 0) (q .subs)) ≡ kept s side k
+
+-- For every pattern, limit, stores and work for which planning grants a plan, the stores that it leaves, filled up with zeros as they are, open on either side to the
+-- plan's kept lists.
+unfoldable pub StoresOpen : Type 0
+StoresOpen =
+    (most : ℕ) (p : Lent) (stores : PlanStores) (work : WorkSizes) (s : Planning)
+    → planned most p stores work ≡ granted s
+    → SideOpens s lower (p .n) (planLeaves p (planned most p stores work) stores .lowerSide)
+    × SideOpens s upper (p .n) (planLeaves p (planned most p stores work) stores .upperSide)
+
+-- ---- a run of finite numbers
+
+-- What 11 lets pass: each value of the pattern's places and each row's right side is finite.
+unfoldable pub FiniteGiven : Pattern → Square Float → (ℕ → Float) → Type 0
+FiniteGiven p values right =
+    ((i j : ℕ) → present p i j ≡ true → finite (values i j) ≡ true)
+    × ((i : ℕ) → (1 ≤ i) × (i ≤ p .height) → finite (right i) ≡ true)
+
+-- A reference that goes on is finite throughout. Table, 14: it stops where "a quotient, product or difference is not finite"; so for every pattern, finite values and
+-- right sides, every choice of rows and every extent that 12 lets pass, a run whole or cut after any number of steps that does not stop has a finite number at every
+-- place of the square and of the right side (whole: the solution).
+unfoldable pub FiniteThroughout : Type 0
+FiniteThroughout =
+    (p : Pattern) (choice : Choice) (extent : Extent)
+    → orderFits p choice extent ≡ true
+    → (values : Square Float) (right : ℕ → Float)
+    → FiniteGiven p values right
+    → (g : Going)
+    → reference choice extent p values right ≡ going g
+    → ((i j : ℕ) → (1 ≤ i) × (i ≤ p .height) × (1 ≤ j) × (j ≤ p .n) → finite ((g .square) i j) ≡ true)
+    × ((i : ℕ) → (1 ≤ i) × (i ≤ p .height) → finite ((g .right) i) ≡ true)
+
+-- Document 01, "Elimination": "At step k the pivot row is the row from k to n with the largest magnitude in column k, the lowest row number if equal", at every step of
+-- a run, the rows going to `height`, in document 01 n. For every pattern, finite values and right sides and a run by the largest entry, whole or cut, and each of its
+-- steps k: where the run goes on, it went on after k-1 steps, and p_k is that row in column k of the square that those steps left. Table, 13, "at step k no row from k
+-- on (..) has a nonzero entry": a run that came to step k stops there with 13 just where that column has none.
+unfoldable pub LargestAtEveryStep : Type 0
+LargestAtEveryStep =
+    (p : Pattern) (extent : Extent)
+    → orderFits p largest extent ≡ true
+    → (values : Square Float) (right : ℕ → Float)
+    → FiniteGiven p values right
+    → (k : ℕ)
+    → (1 ≤ k) × (k ≤ stepsOf extent (p .n))
+    → ((g : Going)
+    → reference largest extent p values right ≡ going g
+    → (before : Going)
+    × (reference largest (cut (k - 1)) p values right ≡ going before)
+    × (1 ≤ getD (g .pivots) (k - 1) 0)
+    × LargestFrom k (p .height) (λ i. (before .square) i k) (getD (g .pivots) (k - 1) 0))
+    × ((before : Going)
+    → reference largest (cut (k - 1)) p values right ≡ going before
+    → (reference largest extent p values right ≡ stopped noPivot k)
+    ↔ ((i : ℕ) → (k ≤ i) × (i ≤ p .height) → mayPivot ((before .square) i k) ≡ false))

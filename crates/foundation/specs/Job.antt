@@ -11,10 +11,10 @@ use Rattle.foundation.specs.Numbers.{ofPattern}
 use Rattle.foundation.specs.Reference.{Choice, largest, listed}
 
 -- "The program takes at most 16,384 bytes, n at most 128".
-unfoldable pub maxJobBytes : ℕ
+abbrev pub maxJobBytes : ℕ
 maxJobBytes = 16384
 
-unfoldable pub maxJobN : ℕ
+abbrev pub maxJobN : ℕ
 maxJobN = 128
 
 -- "Little-endian operands."

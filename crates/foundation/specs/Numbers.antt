@@ -1,12 +1,22 @@
 -- What the elimination asks of an f64: zero of either sign, finite, magnitude, and the operations with one rounding each.
 use mathlib.Core.Bool.{Bool, true, false, not}
-use Prim.Native.Nat.{ℕ}
+use Prim.Native.Nat.{ℕ, zero, suc}
 use lib.Ieee.{Float, nan, inf, fin, binary64, sub, mul, div, eq, toBits, ofBits}
-use lib.IntN.{pos}
+use lib.IntN.{pos, negsuc}
 
 -- +0: what stands at every place outside the pattern (document 01, "Elimination": "+0 outside the pattern").
 unfoldable pub plusZero : Float
 plusZero = fin false 0 (pos 0)
+
+-- Whether the bits of a number are +0's, as against -0's: the run's invariant speaks of the places that are not.
+unfoldable pub isPlusZero : Float → Bool
+isPlusZero nan = false
+isPlusZero (inf s) = false
+isPlusZero (fin true m e) = false
+isPlusZero (fin false (suc m) e) = false
+isPlusZero (fin false zero (pos (suc e))) = false
+isPlusZero (fin false zero (negsuc e)) = false
+isPlusZero (fin false zero (pos zero)) = true
 
 -- Document 01, "Elimination": "Zero means +0 or -0."
 unfoldable pub isZero : Float → Bool

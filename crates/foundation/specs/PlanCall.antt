@@ -1,6 +1,6 @@
 -- What a planning call answers and leaves in the lent stores, and when a lent plan is this pattern's plan.
 use mathlib.Core.Bool.{Bool, not, _&&_}
-use mathlib.Core.List.{List}
+use mathlib.Core.List.{List, [], _∷_}
 use Prim.Native.Nat.{ℕ, suc}
 use lib.Dec.{eqb}
 use lib.ListN.{length, take}
@@ -20,6 +20,10 @@ pub record Counts : Type 0 where
   pub lowerSlots : ℕ
   pub upperSlots : ℕ
   pub reads : ℕ
+
+-- the seven numbers in that order: in the line `plan`, and wherever counts are told or given as numbers
+unfoldable pub countNumbers : Counts → List ℕ
+countNumbers c = c .n ∷ c .entries ∷ c .lowerSubscripts ∷ c .upperSubscripts ∷ c .lowerSlots ∷ c .upperSlots ∷ c .reads ∷ []
 
 -- the used part of a side's subscript store
 unfoldable pub subscripts : Planning → Side → ℕ → List ℕ

@@ -10,7 +10,7 @@ use Rattle.foundation.specs.Answer.{Answer, refused, granted, andThen}
 use Rattle.foundation.specs.Pattern.{Lent}
 use Rattle.foundation.specs.Numbers.{bitsOf}
 use Rattle.foundation.specs.Reference.{whole, Going}
-use Rattle.foundation.specs.PlanCall.{Counts, countsOf, SideStores, PlanStores, WorkSizes, planned}
+use Rattle.foundation.specs.PlanCall.{Counts, countNumbers, countsOf, SideStores, PlanStores, WorkSizes, planned}
 use Rattle.foundation.specs.RunCall.{Lending, Ran, ranWith}
 use Rattle.foundation.specs.Text.{ascii}
 use Rattle.foundation.specs.Job.{Job, maxJobN, readJob}
@@ -18,7 +18,7 @@ use Rattle.foundation.specs.Job.{Job, maxJobN, readJob}
 -- ---- what the program computes
 
 -- "and lends 2,048 subscripts and 2,048 slots a side"
-unfoldable pub jobRoom : ℕ
+abbrev pub jobRoom : ℕ
 jobRoom = 2048
 
 -- the program's own work stores have the lengths that docs/ fixes
@@ -87,11 +87,7 @@ spaced n = ascii " " ++ decimal n
 
 -- `plan`, n, entries, L and U subscripts, L and U slots, reads
 unfoldable pub planLine : Counts → List ℕ
-planLine c =
-    ascii "plan"
-    ++ chain spaced
-    (c .n ∷ c .entries ∷ c .lowerSubscripts ∷ c .upperSubscripts ∷ c .lowerSlots ∷ c .upperSlots ∷ c .reads ∷ [])
-    ++ ascii "\n"
+planLine c = ascii "plan" ++ chain spaced (countNumbers c) ++ ascii "\n"
 
 -- `rows`: "pivot row of each step"
 unfoldable pub rowsLine : List ℕ → List ℕ

@@ -6,8 +6,10 @@ use native.Mathlib.Nat.{sub-zero}
 use native.Mathlib.Omega.{arith}
 use lib.ListN.{length, drop, replicate, take-append-drop}
 use Rattle.lists.specs.Functions.{padded}
-use Rattle.inner_printing.specs.Appended.{Appended}
-use Rattle.inner_reading.specs.Read.{JobStores, Sized}
+use Rattle.foundation.specs.Job.{maxJobN}
+use Rattle.job_sizes.specs.Sizes.{jobEntries, moreThanN}
+use Rattle.job_print.specs.Appended.{Appended}
+use Rattle.job_read.specs.Read.{JobStores, Sized}
 
 drop-zeros : (k room : ℕ) → drop k (replicate {A = ℕ} room 0) ≡ replicate (room - k) 0
 drop-zeros zero room = rw sub-zero
@@ -22,7 +24,7 @@ alone room text now end a =
     (e, sym (take-append-drop end now) ∙ rw (a .written, a .beyond, drop-zeros end room, e))
 
 -- the stores that a job was read into, if they kept the lengths of their arrays
-pub arrays-sized : (s : JobStores) → length (s .starts) ≡ 129 → length (s .columns) ≡ 1489 → length (s .values) ≡ 1489 → length (s .right) ≡ 128
-    → length (s .rows) ≡ 128 → Sized s
+pub arrays-sized : (s : JobStores) → length (s .starts) ≡ moreThanN → length (s .columns) ≡ jobEntries → length (s .values) ≡ jobEntries → length (s .right) ≡ maxJobN
+    → length (s .rows) ≡ maxJobN → Sized s
 arrays-sized s a b c d e =
     record { starts-room = omega arith; columns-room = omega arith; values-room = omega arith; right-room = omega arith; rows-room = omega arith }

@@ -8,11 +8,11 @@ use lib.ListN.{take}
 use Rattle.foundation.specs.Answer.{refused, granted}
 use Rattle.foundation.specs.Job.{readJob}
 use Rattle.foundation.specs.Printing.{printed, jobText, refusedLine}
-use Rattle.inner_reading.specs.Read.{JobStores, jobIn, readOf}
-use Rattle.inner_reading.specs.declared.Sizes.{Sizes}
-use Rattle.inner_reading.specs.declared.JobRead.{JobRead}
-use Rattle.inner_reading.specs.declared.JobRead.the-variants.{Refused, Read}
-use Rattle.inner_lending.specs.Answering.{jobFrom}
+use Rattle.job_read.specs.Read.{JobStores, jobIn, readOf}
+use Rattle.job_read.specs.declared.Sizes.{Sizes}
+use Rattle.job_read.specs.declared.JobRead.{JobRead}
+use Rattle.job_read.specs.declared.JobRead.the-variants.{Refused, Read}
+use Rattle.job_run.specs.Answering.{jobFrom}
 
 -- the filled parts of the stores
 pub parts-are : (z : Sizes) (s : JobStores)

@@ -3,13 +3,17 @@ ghost use Prim.Native.Nat.{_≤_};
 ghost use lib.ListN.{length};
 ghost use Rattle.foundation.specs.Answer.{granted};
 ghost use Rattle.foundation.specs.Printing.{printed, jobText};
-ghost use Rattle.inner_printing.specs.Appended.{Appended};
-ghost use Rattle.inner_reading.specs.Read.{storesOf, Sized, jobIn, Inside};
-use inner_lending::put_plan;
-use inner_printing::put_refused;
-use inner_reading::JobRead;
-use inner_reading::Sizes;
-use inner_reading::read_job;
+ghost use Rattle.job_sizes.specs.Sizes.{answerRoom};
+ghost use Rattle.job_print.specs.Appended.{Appended};
+ghost use Rattle.job_read.specs.Read.{storesOf, Sized, jobIn, WithinStores};
+use job_print::put_refused;
+use job_read::JobRead;
+use job_read::Sizes;
+use job_read::read_job;
+use job_run::put_plan;
+use job_sizes::JOB_ENTRIES;
+use job_sizes::LARGEST_N;
+use job_sizes::MORE_THAN_N;
 
 // A job that was read: the filled parts of its stores go on.
 fn put_read(
@@ -21,7 +25,7 @@ fn put_read(
     right: &[f64],
     rows: &[usize],
 ) -> usize
-    requires { ⌜ (8192 ≤ length (now out)) × Inside z × Sized (storesOf (now starts) (now columns) (now values) (now right) (now rows)) ⌝ }
+    requires { ⌜ (answerRoom ≤ length (now out)) × WithinStores z × Sized (storesOf (now starts) (now columns) (now values) (now right) (now rows)) ⌝ }
     ensures { λ r. ⌜ Appended (now (out .entry)) 0
         (jobText (granted (jobIn z (storesOf (now (starts .entry)) (now (columns .entry)) (now (values .entry)) (now (right .entry)) (now (rows .entry))))))
         (now (out .exit)) r ⌝ }
@@ -43,14 +47,14 @@ fn put_read(
 
 // The answer to a job's bytes.
 pub fn put_answer(job: &[u8], out: &mut [u8]) -> usize
-    requires { ⌜ 8192 ≤ length (now out) ⌝ }
+    requires { ⌜ answerRoom ≤ length (now out) ⌝ }
     ensures { λ r. ⌜ Appended (now (out .entry)) 0 (printed (now (job .entry))) (now (out .exit)) r ⌝ }
 {
-    let mut starts = [0usize; 129];
-    let mut columns = [0usize; 1489];
-    let mut values = [0.0f64; 1489];
-    let mut right = [0.0f64; 128];
-    let mut rows = [0usize; 128];
+    let mut starts = [0usize; MORE_THAN_N];
+    let mut columns = [0usize; JOB_ENTRIES];
+    let mut values = [0.0f64; JOB_ENTRIES];
+    let mut right = [0.0f64; LARGEST_N];
+    let mut rows = [0usize; LARGEST_N];
     let read = read_job(
         job,
         &mut starts,

@@ -1,28 +1,15 @@
--- The members that pass a test: all of them, none, those of a union.
+-- The members that pass a test: all of them, those of a union.
 use mathlib.Core.Path.{_≡_, refl, ap, _∙_}
-use mathlib.Core.Bool.{Bool, true, false, not, _&&_, and-or-distrib-right}
-use mathlib.Core.List.{List, [], _∷_, _++_}
+use mathlib.Core.Bool.{Bool, true, not, and-or-distrib-right}
+use mathlib.Core.List.{List, [], _∷_}
 use Prim.Native.Nat.{ℕ, suc}
 use native.Mathlib.Omega.{arith}
-use lib.Dec.{eqb, leb}
-use borrow.Author.Tests.{eq-eqb, ne-eqb, le-leb}
+use lib.Dec.{eqb}
+use borrow.Author.Tests.{eq-eqb, ne-eqb}
 use Rattle.lists.specs.Functions.{keep}
-use Rattle.lists.specs.Sets.{member, Ascending, union, joinAll, from}
-use Rattle.lists.proofs.Members.{by-test, member-head, member-tail, member-keep, member-union}
+use Rattle.lists.specs.Sets.{member, Ascending, union, joinAll}
+use Rattle.lists.proofs.Members.{member-head, member-tail, member-keep, member-union}
 use Rattle.lists.proofs.Order.{member-low, ascending-keep, ascending-union, same-members}
-
-module _ {ℓ} {A : Type ℓ} where
-  -- keeping goes through two lists one behind the other
-  pub keep-append : (t : A → Bool) (xs ys : List A) → keep t (xs ++ ys) ≡ keep t xs ++ keep t ys
-  unfolding keep
-  keep-append t [] ys = refl
-  keep-append t (x ∷ xs) ys = by-test (t x) (λ e. rw (e, keep-append t xs ys)) (λ e. rw (e, keep-append t xs ys))
-
-  -- keeping twice is keeping what passes both tests
-  pub keep-keep : (s t : A → Bool) (xs : List A) → keep s (keep t xs) ≡ keep (λ x. t x && s x) xs
-  unfolding keep
-  keep-keep s t [] = refl
-  keep-keep s t (x ∷ xs) = by-test (t x) (λ e. rw (e, keep-keep s t xs)) (λ e. rw (e, keep-keep s t xs))
 
 -- tests that agree on the members keep the same
 pub keep-cong : (s t : ℕ → Bool) (xs : List ℕ) → ((x : ℕ) → member x xs ≡ true → s x ≡ t x) → keep s xs ≡ keep t xs
@@ -35,12 +22,6 @@ pub keep-all : (t : ℕ → Bool) (xs : List ℕ) → ((x : ℕ) → member x xs
 unfolding keep
 keep-all t [] pass = refl
 keep-all t (x ∷ xs) pass = rw (pass x (member-head x xs), keep-all t xs (λ z m. pass z (member-tail z x xs m)))
-
--- where no member passes, none is kept
-pub keep-none : (t : ℕ → Bool) (xs : List ℕ) → ((x : ℕ) → member x xs ≡ true → t x ≡ false) → keep t xs ≡ []
-unfolding keep
-keep-none t [] fail = refl
-keep-none t (x ∷ xs) fail = rw (fail x (member-head x xs)) (keep-none t xs (λ z m. fail z (member-tail z x xs m)))
 
 -- what is kept of a union is the union of what is kept
 pub keep-union : (a : ℕ) (t : ℕ → Bool) (xs ys : List ℕ) → Ascending a xs → Ascending a ys → keep t (union xs ys) ≡ union (keep t xs) (keep t ys)
@@ -67,12 +48,3 @@ leave-absent k xs h = keep-all (λ x. not (eqb x k)) xs (λ x m. let l = member-
 pub leave-first : (k : ℕ) (xs : List ℕ) → Ascending k (k ∷ xs) → keep (λ x. not (eqb x k)) (k ∷ xs) ≡ xs
 unfolding keep Ascending
 leave-first k xs h = rw (eq-eqb k k refl) (leave-absent k xs (h .1))
-
--- where all members are k or more, keeping those keeps all
-pub keep-least : (k : ℕ) (xs : List ℕ) → Ascending k xs → keep (leb k) xs ≡ xs
-keep-least k xs h = keep-all (leb k) xs (λ x m. le-leb k x (member-low x k xs h m))
-
--- where all members are k or more, those from k on are all
-pub from-all : (k : ℕ) (xs : List ℕ) → Ascending k xs → from k xs ≡ xs
-unfolding from
-from-all k xs h = keep-least k xs h

@@ -4,12 +4,11 @@ use mathlib.Core.Bool.{true}
 use mathlib.Core.List.{List, [], _∷_}
 use Prim.Native.Nat.{ℕ, _≤_, _<_}
 use lib.Dec.{ltb}
-use borrow.Author.Tests.{ltb-true, lt-ltb, le-ltb}
+use borrow.Author.Tests.{ltb-true, lt-ltb}
 use Rattle.lists.specs.Functions.{keep}
 use Rattle.lists.specs.Sets.{member, Ascending, first, leastAbove}
 use Rattle.lists.proofs.Members.{member-head, not-member-nil, kept-in, kept-passes, in-keep}
 use Rattle.lists.proofs.Order.{member-first, ascending-keep}
-use Rattle.lists.proofs.Kept.{keep-none}
 
 -- the first of a list that has a member is a member
 pub first-member : (x : ℕ) (xs : List ℕ) → member x xs ≡ true → member (first xs) xs ≡ true
@@ -53,8 +52,3 @@ least-nonzero-member k xs n = kept-in (first (keep (ltb k) xs)) (ltb k) xs (firs
 pub least-nonzero-above : (k : ℕ) (xs : List ℕ) → (leastAbove k xs ≡ 0 → ⊥) → k < leastAbove k xs
 unfolding leastAbove
 least-nonzero-above k xs n = ltb-true k (first (keep (ltb k) xs)) (kept-passes (first (keep (ltb k) xs)) (ltb k) xs (first-nonzero (keep (ltb k) xs) n))
-
--- where no member is above k, the least above k is 0
-pub least-none : (k : ℕ) (xs : List ℕ) → ((x : ℕ) → member x xs ≡ true → x ≤ k) → leastAbove k xs ≡ 0
-unfolding leastAbove first
-least-none k xs under = rw (keep-none (ltb k) xs (λ x m. le-ltb k x (under x m)))

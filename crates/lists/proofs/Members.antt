@@ -6,14 +6,10 @@ use mathlib.Core.List.{List, [], _∷_, _++_}
 use Prim.Native.Nat.{ℕ, zero, suc, _+_, _-_, _≤_, _<_}
 use native.Mathlib.Omega.{arith}
 use lib.Dec.{eqb, ltb}
+use lib.ListN.{drop}
 use borrow.Author.Tests.{eqb-true, eqb-false, eq-eqb, ne-eqb, lt-ltb, le-ltb}
-use Rattle.lists.specs.Functions.{keep, all, empty}
+use Rattle.lists.specs.Functions.{keep, all, empty, same}
 use Rattle.lists.specs.Sets.{member, run, upto, between, mergeOne, union, joinAll}
-
--- a test passes or fails
-pub Bool·cases : (b : Bool) → b ≡ true ⊎ b ≡ false
-Bool·cases true = inl refl
-Bool·cases false = inr refl
 
 -- a statement by the two cases of a test
 pub by-test {ℓ} : {P : Type ℓ} (b : Bool) → (b ≡ true → P) → (b ≡ false → P) → P
@@ -70,6 +66,24 @@ unfolding empty
 empty-nil [] e = refl
 empty-nil (x ∷ xs) e = absurd (false≢true e)
 
+-- lists that are the same by the test are equal
+pub same-equal : (xs ys : List ℕ) → same xs ys ≡ true → xs ≡ ys
+unfolding same
+same-equal [] [] h = refl
+same-equal [] (y ∷ ys) h = absurd (false≢true h)
+same-equal (x ∷ xs) [] h = absurd (false≢true h)
+same-equal (x ∷ xs) (y ∷ ys) h = rw (eqb-true x y (and-left (eqb x y) (same xs ys) h), same-equal xs ys (and-right (eqb x y) (same xs ys) h))
+
+-- a list is the same as itself, by the test
+pub same-self : (xs : List ℕ) → same xs xs ≡ true
+unfolding same
+same-self [] = refl
+same-self (x ∷ xs) = rw (eq-eqb x x refl) (same-self xs)
+
+-- equal lists are the same by the test
+pub equal-same : (xs ys : List ℕ) → xs ≡ ys → same xs ys ≡ true
+equal-same xs ys e = rw e (same-self ys)
+
 -- a number is a member of each list that begins with it
 pub member-head : (x : ℕ) (xs : List ℕ) → member x (x ∷ xs) ≡ true
 unfolding member
@@ -89,6 +103,28 @@ member-cases x y ys e = ⊎-elim (λ p. inl (eqb-true x y p)) (λ p. inr p) (or-
 pub not-member-nil : (x : ℕ) → member x [] ≡ true → ⊥
 unfolding member
 not-member-nil x e = false≢true e
+
+-- what is neither the first nor a later member is none
+pub not-in : (x y : ℕ) (ys : List ℕ) → (x ≡ y → ⊥) → member x ys ≡ false → member x (y ∷ ys) ≡ false
+unfolding member
+not-in x y ys n m = rw (ne-eqb x y n, m)
+
+-- a member of the rest of a list is a member
+pub drop-in : (x a : ℕ) (xs : List ℕ) → member x (drop a xs) ≡ true → member x xs ≡ true
+drop-in x zero xs m = m
+drop-in x (suc a) [] m = m
+drop-in x (suc a) (y ∷ ys) m = member-tail x y ys (drop-in x a ys m)
+
+-- a number is a member of each list that ends with it
+pub member-snoc : (x : ℕ) (xs : List ℕ) → member x (xs ++ x ∷ []) ≡ true
+member-snoc x [] = member-head x []
+member-snoc x (y ∷ ys) = member-tail x y (ys ++ x ∷ []) (member-snoc x ys)
+
+-- one number more behind a list does not change whether another one is a member
+pub member-snoc-other : (x y : ℕ) (xs : List ℕ) → (x ≡ y → ⊥) → member x (xs ++ y ∷ []) ≡ member x xs
+unfolding member
+member-snoc-other x y [] n = rw (ne-eqb x y n)
+member-snoc-other x y (z ∷ zs) n = rw (member-snoc-other x y zs n)
 
 -- the members of two lists one behind the other are those of both
 pub member-append : (x : ℕ) (xs ys : List ℕ) → member x (xs ++ ys) ≡ member x xs || member x ys
@@ -219,6 +255,12 @@ joined-cases x f a (i ∷ is) e = ⊎-elim
     (λ r. inr (r .0, member-tail (r .0) i is (r .1), r .2))
     (joined-cases x f (union a (f i)) is e)
 
+-- sets that agree on the members of a list join to the same
+pub joinAll-cong : (f g : ℕ → List ℕ) (a is : List ℕ) → ((i : ℕ) → member i is ≡ true → f i ≡ g i) → joinAll f a is ≡ joinAll g a is
+unfolding joinAll
+joinAll-cong f g a [] agree = refl
+joinAll-cong f g a (i ∷ is) agree = rw (agree i (member-head i is)) (joinAll-cong f g (union a (g i)) is (λ j m. agree j (member-tail j i is m)))
+
 -- the numbers from a on, d of them, are members of their run
 pub in-run : (x a d : ℕ) → a ≤ x → x < a + d → member x (run a d) ≡ true
 unfolding run
@@ -283,3 +325,9 @@ pub all-from : (t : ℕ → Bool) (xs : List ℕ) → ((x : ℕ) → member x xs
 unfolding all
 all-from t [] h = refl
 all-from t (y ∷ ys) h = and-both (t y) (all t ys) (h y (member-head y ys)) (all-from t ys (λ x m. h x (member-tail x y ys m)))
+
+-- tests that agree on the members are passed by all or not alike
+pub all-cong : (s t : ℕ → Bool) (xs : List ℕ) → ((x : ℕ) → member x xs ≡ true → s x ≡ t x) → all s xs ≡ all t xs
+unfolding all
+all-cong s t [] agree = refl
+all-cong s t (x ∷ xs) agree = rw (agree x (member-head x xs), all-cong s t xs (λ z m. agree z (member-tail z x xs m)))

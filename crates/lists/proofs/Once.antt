@@ -9,7 +9,7 @@ use lib.Dec.{eqb}
 use lib.ListN.{length}
 use borrow.Author.Tests.{eqb-true, eqb-false}
 use Rattle.lists.specs.Functions.{keep, chain}
-use Rattle.lists.specs.Sets.{member, Ascending}
+use Rattle.lists.specs.Sets.{member, Ascending, Falling}
 use Rattle.lists.proofs.Members.{by-test, fails, or-true-cases, or-left, or-right, member-head, member-tail, member-cases, member-append, not-member-nil}
 use Rattle.lists.proofs.Order.{member-above}
 
@@ -17,11 +17,6 @@ use Rattle.lists.proofs.Order.{member-above}
 unfoldable pub Once : List ℕ → Type 0
 Once [] = Unit
 Once (x ∷ xs) = (member x xs ≡ false) × Once xs
-
--- strictly falling, with every member below `high`
-unfoldable pub Falling : ℕ → List ℕ → Type 0
-Falling high [] = Unit
-Falling high (x ∷ xs) = (x < high) × Falling x xs
 
 -- a falling list may be said to begin higher
 pub falling-weaken : (a b : ℕ) (xs : List ℕ) → a ≤ b → Falling a xs → Falling b xs

@@ -97,21 +97,12 @@ pub ascending-from : (a k : ℕ) (xs : List ℕ) → Ascending a xs → Ascendin
 unfolding from
 ascending-from a k xs h = ascending-raise a k (keep (leb k) xs) (ascending-keep a (leb k) xs h) (λ x m. leb-true k x (kept-passes x (leb k) xs m))
 
--- the members above k ascend from the next number
-pub ascending-above : (a k : ℕ) (xs : List ℕ) → Ascending a xs → Ascending (suc k) (keep (ltb k) xs)
-ascending-above a k xs h = ascending-raise a (suc k) (keep (ltb k) xs) (ascending-keep a (ltb k) xs h) (λ x m. ltb-true k x (kept-passes x (ltb k) xs m))
-
 -- two ascending lists, the second from above the first, ascend one behind the other
 pub ascending-append : (a b : ℕ) (xs ys : List ℕ) → Ascending a xs → Ascending b ys → ((x : ℕ) → member x xs ≡ true → x < b) → a ≤ b → Ascending a (xs ++ ys)
 unfolding Ascending
 ascending-append a b [] ys h k low l = ascending-weaken a b ys l k
 ascending-append a b (x ∷ xs) ys h k low l =
     (h .0, ascending-append (suc x) b xs ys (h .1) k (λ z m. low z (member-tail z x xs m)) (low x (member-head x xs)))
-
--- an ascending list and one greater number behind it ascend
-pub ascending-append-one : (a x : ℕ) (xs : List ℕ) → Ascending a xs → ((y : ℕ) → member y xs ≡ true → y < x) → a ≤ x → Ascending a (xs ++ x ∷ [])
-unfolding Ascending
-ascending-append-one a x xs h low l = ascending-append a x xs (x ∷ []) h (le-refl x, tt) low l
 
 -- ascending lists of which each holds the other's members are equal
 pub same-members-by : (a b : ℕ) (xs ys : List ℕ) → Ascending a xs → Ascending b ys
@@ -149,7 +140,3 @@ union-append (x ∷ xs) [] below = union-nil-right (x ∷ xs) ∙ sym (append-ni
 union-append (x ∷ xs) (y ∷ ys) below =
     union-less x y xs ys (below x y (member-head x xs) (member-head y ys))
     ∙ ap (λ (zs : List ℕ). x ∷ zs) (union-append xs (y ∷ ys) (λ u v m n. below u v (member-tail u x xs m) n))
-
--- the union of a set and one greater number is that number behind it
-pub union-append-one : (x : ℕ) (xs : List ℕ) → ((y : ℕ) → member y xs ≡ true → y < x) → union xs (x ∷ []) ≡ xs ++ x ∷ []
-union-append-one x xs low = union-append xs (x ∷ []) (λ y z m n. ⊎-elim (λ (q : z ≡ x). rw q (low y m)) (λ e. absurd (not-member-nil z e)) (member-cases z x [] n))

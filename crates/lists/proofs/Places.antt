@@ -5,15 +5,15 @@ use mathlib.Core.Bool.{true, false}
 use mathlib.Core.List.{List, [], _∷_, _++_, map, append-nil, append-assoc}
 use Prim.Native.Nat.{ℕ, zero, suc, _+_, _-_, _≤_, _<_, suc-le-suc}
 use native.Mathlib.Nat.{add-zero, add-suc, suc-add, sub-self, sub-zero}
-use native.Mathlib.Numerals.{one-add}
+use native.Mathlib.Numerals.{one-add, add-one}
 use native.Mathlib.Omega.{arith}
 use lib.Dec.{eqb}
-use lib.ListN.{length, getD, take, replicate, length-append, length-map, length-replicate, List·getD-append}
-use lib.Seq.{take-append-seam, getD-append-add}
+use lib.ListN.{length, getD, take, replicate, length-append, length-map, length-replicate, List·getD-append, drop}
+use lib.Seq.{take-suc, take-append-seam, getD-append-add, take-nil}
 use borrow.Author.Tests.{eqb-true, eqb-false, eq-eqb, ne-eqb}
 use Rattle.lists.specs.Functions.{update, total, chain, padded}
 use Rattle.lists.specs.Sets.{member, Ascending, run, upto, indexOf}
-use Rattle.lists.proofs.Members.{by-test, member-head, member-tail, member-cases, not-member-nil}
+use Rattle.lists.proofs.Members.{by-test, member-head, member-tail, member-cases, not-member-nil, fails, not-in}
 use Rattle.lists.proofs.Order.{member-above}
 
 module _ {ℓ} {A : Type ℓ} where
@@ -51,13 +51,6 @@ getD-run a zero i z l = absurd (omega arith)
 getD-run a (suc d) zero z l = sym (add-zero a)
 getD-run a (suc d) (suc i) z l = getD-run (suc a) d i z (omega arith) ∙ omega arith
 
--- the first numbers of a run are a run
-pub take-run : (a d t : ℕ) → t ≤ d → take t (run a d) ≡ run a t
-unfolding run
-take-run a d zero l = refl
-take-run a zero (suc t) l = absurd (omega arith)
-take-run a (suc d) (suc t) l = ap (λ (zs : List ℕ). a ∷ zs) (take-run (suc a) d t (omega arith))
-
 -- the numbers 1 to n + 1 are those to n and one more
 pub upto-snoc : (n : ℕ) → upto (suc n) ≡ upto n ++ suc n ∷ []
 unfolding upto
@@ -80,6 +73,35 @@ module _ {ℓ} {A : Type ℓ} where
   getD-map-run f a (suc d) zero z l = rw add-zero
   getD-map-run f a (suc d) (suc i) z l = getD-map-run f (suc a) d i z (omega arith) ∙ rw (suc-add, add-suc)
 
+-- the number i of 1 to n stands at place i - 1
+pub upto-at : (n i : ℕ) → 1 ≤ i → i ≤ n → getD (upto n) (i - 1) 0 ≡ i
+unfolding upto
+upto-at n i low high = let e : 1 + (i - 1) ≡ i = omega arith in getD-run 1 n (i - 1) 0 (omega arith) ∙ e
+
+module _ {ℓ} {A : Type ℓ} where
+  -- a value for each of 1 to n: n values
+  pub length-map-upto : (f : ℕ → A) (n : ℕ) → length (map f (upto n)) ≡ n
+  unfolding upto
+  length-map-upto f n = length-map-run f 1 n
+
+  -- a value for each of 1 to n: that of i stands at place i - 1
+  pub map-upto-at : (f : ℕ → A) (n i : ℕ) (z : A) → 1 ≤ i → i ≤ n → getD (map f (upto n)) (i - 1) z ≡ f i
+  unfolding upto
+  map-upto-at f n i z low high = let e : 1 + (i - 1) ≡ i = omega arith in getD-map-run f 1 n (i - 1) z (omega arith) ∙ ap f e
+
+  -- a value for each member of a list: the one at each place
+  pub getD-mapped : (f : ℕ → A) (xs : List ℕ) (i : ℕ) (z : A) → i < length xs → getD (map f xs) i z ≡ f (getD xs i 0)
+  getD-mapped f [] i z l = absurd (omega arith)
+  getD-mapped f (x ∷ xs) zero z l = refl
+  getD-mapped f (x ∷ xs) (suc i) z l = getD-mapped f xs i z (omega arith)
+
+  -- the places from f to t, however they are cut out
+  pub slice-part : (f t : ℕ) (xs : List A) → f ≤ t → take (t - f) (drop f xs) ≡ drop f (take t xs)
+  slice-part zero t xs h = let e : t - 0 ≡ t = omega arith in rw e
+  slice-part (suc f) zero xs h = absurd (omega arith)
+  slice-part (suc f) (suc t) [] h = take-nil (suc t - suc f)
+  slice-part (suc f) (suc t) (x ∷ xs) h = let e : suc t - suc f ≡ t - f = omega arith in rw e (slice-part f t xs (omega arith))
+
 -- the place of a member is one of the list's
 pub index-below : (x : ℕ) (xs : List ℕ) → member x xs ≡ true → indexOf x xs < length xs
 unfolding indexOf
@@ -101,6 +123,26 @@ pub member-at : (i : ℕ) (xs : List ℕ) → i < length xs → member (getD xs 
 member-at i [] l = absurd (omega arith)
 member-at zero (y ∷ ys) l = member-head y ys
 member-at (suc i) (y ∷ ys) l = member-tail (getD ys i 0) y ys (member-at i ys (omega arith))
+
+-- no member of an ascending list is above the last
+pub member-last : (a x i : ℕ) (xs : List ℕ) → Ascending a xs → length xs ≡ suc i → member x xs ≡ true → x ≤ getD xs i 0
+unfolding Ascending
+member-last a x i [] h e m = absurd (omega arith)
+member-last a x zero (y ∷ []) h e m = ⊎-elim (λ (q : x ≡ y). omega arith) (λ r. absurd (not-member-nil x r)) (member-cases x y [] m)
+member-last a x zero (y ∷ (z ∷ zs)) h e m = absurd (omega arith)
+member-last a x (suc i) (y ∷ ys) h e m =
+    ⊎-elim
+    (λ (q : x ≡ y). omega (arith, member-above (getD ys i 0) a y ys h (member-at i ys (omega arith))))
+    (λ r. member-last (suc y) x i ys (h .1) (omega arith) r) (member-cases x y ys m)
+
+-- what stands at a place of an ascending list does not stand before it
+pub not-before : (a i : ℕ) (xs : List ℕ) → Ascending a xs → i < length xs → member (getD xs i 0) (take i xs) ≡ false
+unfolding Ascending
+not-before a i [] h l = absurd (omega arith)
+not-before a zero (y ∷ ys) h l = fails (member y []) (not-member-nil y)
+not-before a (suc i) (y ∷ ys) h l =
+    let up : y < getD ys i 0 = member-above (getD ys i 0) a y ys h (member-at i ys (omega arith)) in
+    not-in (getD ys i 0) y (take i ys) (λ q. omega arith) (not-before (suc y) i ys (h .1) (omega arith))
 
 -- in an ascending list the place of what stands at a place is that place
 pub at-index : (a i : ℕ) (xs : List ℕ) → Ascending a xs → i < length xs → indexOf (getD xs i 0) xs ≡ i
@@ -126,12 +168,6 @@ module _ {ℓ κ} {A : Type ℓ} {B : Type κ} where
   unfolding chain
   chain-append f [] ys = refl
   chain-append f (x ∷ xs) ys = rw (chain-append f xs ys) (sym (append-assoc (f x) (chain f xs) (chain f ys)))
-
-  -- lists one behind the other are as long as all together
-  pub length-chain : (f : A → List B) (xs : List A) → length (chain f xs) ≡ total (λ x. length (f x)) xs
-  unfolding chain total
-  length-chain f [] = refl
-  length-chain f (x ∷ xs) = rw (length-append, length-chain f xs)
 
   -- what stands at each place of the list that belongs to one member
   pub getD-chain : (f : A → List B) (p : List A) (x : A) (q : List A) (i : ℕ) (z : B) → i < length (f x)
@@ -159,3 +195,7 @@ module _ {ℓ} {A : Type ℓ} where
   pub padded-nil : (z : A) (room : ℕ) → padded z room [] ≡ replicate room z
   unfolding padded
   padded-nil z room = rw sub-zero
+
+-- the members before place i and the one there
+pub take-more : (i : ℕ) (xs : List ℕ) → i < length xs → take (i + 1) xs ≡ take i xs ++ getD xs i 0 ∷ []
+take-more i xs l = rw add-one (take-suc xs i 0 l)

@@ -11,6 +11,9 @@ least n = omega arith
 pub less : (n t : ℕ) → t < n → n - (t + 1) < n - t
 less n t l = omega arith
 
+pub less-one : (n : ℕ) → suc n - 1 ≡ n
+less-one n = omega arith
+
 pub next-le : (n t : ℕ) → t < n → t + 1 ≤ n
 next-le n t l = omega arith
 

@@ -3,7 +3,7 @@ use mathlib.Core.Bool.{Bool, true, false, cond, _&&_}
 use mathlib.Core.List.{List, [], _∷_, _++_}
 use Prim.Native.Nat.{ℕ, _+_, _-_}
 use lib.Dec.{eqb}
-use lib.ListN.{length, replicate}
+use lib.ListN.{length, replicate, getD}
 
 module _ {ℓ} {A : Type ℓ} where
   -- f, but v at k
@@ -45,3 +45,7 @@ same [] [] = true
 same [] (y ∷ ys) = false
 same (x ∷ xs) [] = false
 same (x ∷ xs) (y ∷ ys) = eqb x y && same xs ys
+
+-- how many places lie from one start to the next: list i by a store of starts
+abbrev pub span : List ℕ → ℕ → ℕ
+span starts i = getD starts i 0 - getD starts (i - 1) 0

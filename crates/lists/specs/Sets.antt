@@ -1,7 +1,7 @@
 -- Finite sets of numbers, written as strictly ascending lists.
 use mathlib.Core.Bool.{Bool, true, false, cond, _&&_, _||_}
 use mathlib.Core.List.{List, [], _∷_}
-use Prim.Native.Nat.{ℕ, zero, suc, _-_, _≤_}
+use Prim.Native.Nat.{ℕ, zero, suc, _-_, _≤_, _<_}
 use lib.Dec.{eqb, ltb, leb}
 use lib.ListN.{length}
 use Rattle.lists.specs.Functions.{keep}
@@ -15,6 +15,11 @@ member x (y ∷ ys) = eqb x y || member x ys
 unfoldable pub Ascending : ℕ → List ℕ → Type 0
 Ascending low [] = Unit
 Ascending low (x ∷ xs) = (low ≤ x) × Ascending (suc x) xs
+
+-- strictly falling, with every member below `high`: lists that are kept as chains, the newest first
+unfoldable pub Falling : ℕ → List ℕ → Type 0
+Falling high [] = Unit
+Falling high (x ∷ xs) = (x < high) × Falling x xs
 
 -- the numbers from a on, as many as `count`
 unfoldable pub run : ℕ → ℕ → List ℕ

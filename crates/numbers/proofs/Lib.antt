@@ -1,3 +1,4 @@
--- Laws of lists that are laid into a store, and of refusals.
-pub mod Laid
-pub mod Retold
+-- Laws of lists in a store of any length, of refusals, and of counts.
+pub mod CutOrPadded
+pub mod Refused
+pub mod CountsBack

@@ -6,15 +6,15 @@ use lib.Dec.{eqb}
 use lib.ListN.{getD, take}
 use Rattle.lists.specs.Functions.{padded}
 use Rattle.foundation.specs.Answer.{Answer, refused, granted}
-use Rattle.foundation.specs.PlanCall.{Counts}
+use Rattle.foundation.specs.PlanCall.{Counts, countNumbers}
 use Rattle.foundation.specs.Reference.{Extent, whole, cut}
 use Rattle.foundation.specs.Tally.{keptSum}
 use Rattle.answers.specs.Answers.{counted}
-use Rattle.numbers.specs.declared.refusals.Told.{Told}
+use Rattle.numbers.specs.declared.refusals.NumberAndStep.{NumberAndStep}
 
 -- a refusal of planning by its number and step
-unfoldable pub toldOf : Told → Answer Counts
-toldOf t = refused (t .number) (t .step)
+unfoldable pub refusalBy : NumberAndStep → Answer Counts
+refusalBy t = refused (t .number) (t .step)
 
 module _ {ℓ} {A : Type ℓ} where
   -- Document 01, "Where each refusal is checked": "A refusal carries its number and its step". 0 is no refusal's number.
@@ -31,10 +31,6 @@ module _ {ℓ} {A : Type ℓ} where
   numbersOf values (refused number step) = number ∷ step ∷ []
   numbersOf values (granted v) = 0 ∷ 0 ∷ values v
 
--- "Plan: n, entries, L and U subscripts, L and U slots, reads."
-unfoldable pub countNumbers : Counts → List ℕ
-countNumbers c = c .n ∷ c .entries ∷ c .lowerSubscripts ∷ c .upperSubscripts ∷ c .lowerSlots ∷ c .upperSlots ∷ c .reads ∷ []
-
 -- the answers of planning, about a lent plan, and of a run
 unfoldable pub planNumbers : Answer Counts → List ℕ
 planNumbers = numbersOf countNumbers
@@ -50,10 +46,10 @@ unfoldable pub tallyNumbers : ℕ → Answer ℕ → List ℕ
 tallyNumbers sum a = refusalNumber a ∷ refusalStep a ∷ keptSum sum a ∷ []
 
 -- What a lent store of `room` places holds of a list: as much as there is room for, and 0 behind it.
-unfoldable pub laid : ℕ → List ℕ → List ℕ
-laid room xs = take room (padded 0 room xs)
+unfoldable pub cutOrPadded : ℕ → List ℕ → List ℕ
+cutOrPadded room xs = take room (padded 0 room xs)
 
--- the seven counts, in the order in which they are told; missing ones are 0, further ones are not read
+-- the seven counts, in the order of `countNumbers`; missing ones are 0, further ones are not read
 unfoldable pub countsFrom : List ℕ → Counts
 countsFrom xs = counted (getD xs 0 0) (getD xs 1 0) (getD xs 2 0) (getD xs 3 0) (getD xs 4 0) (getD xs 5 0) (getD xs 6 0)
 

@@ -2,12 +2,12 @@
 ghost use mathlib.Core.Path.{_≡_};
 ghost use mathlib.Core.List.{[], _∷_};
 ghost use lib.ListN.{length, getD, take};
-ghost use Rattle.numbers.specs.Numbered.{laid};
+ghost use Rattle.numbers.specs.Numbered.{cutOrPadded};
 use crate::reading::number_at;
 
 // Place t gets the t-th number.
 pub fn put(numbers: &[usize], answer: &mut [usize])
-    ensures { λ r. ⌜ now (answer .exit) ≡ laid (length (now (answer .entry))) (now (numbers .entry)) ⌝ }
+    ensures { λ r. ⌜ now (answer .exit) ≡ cutOrPadded (length (now (answer .entry))) (now (numbers .entry)) ⌝ }
 {
     let mut t = 0;
     while t < answer.len() {
@@ -19,7 +19,7 @@ pub fn put(numbers: &[usize], answer: &mut [usize])
 // A refusal's number and step, and the number returned. (0 and 0 where nothing is refused and nothing else is told.)
 pub fn put_refusal(number: usize, step: usize, answer: &mut [usize]) -> usize
     ensures returned { λ r. ⌜ r ≡ number ⌝ }
-    ensures told { λ r. ⌜ now (answer .exit) ≡ laid (length (now (answer .entry))) (number ∷ step ∷ []) ⌝ }
+    ensures numbers { λ r. ⌜ now (answer .exit) ≡ cutOrPadded (length (now (answer .entry))) (number ∷ step ∷ []) ⌝ }
 {
     let numbers = [number, step];
     put(&numbers, answer);
@@ -40,7 +40,7 @@ fn byte_at(bytes: &[u8], count: usize, t: usize) -> u8
 
 // The first `count` bytes.
 pub fn put_bytes(bytes: &[u8], count: usize, out: &mut [u8])
-    ensures { λ r. ⌜ now (out .exit) ≡ laid (length (now (out .entry))) (take count (now (bytes .entry))) ⌝ }
+    ensures { λ r. ⌜ now (out .exit) ≡ cutOrPadded (length (now (out .entry))) (take count (now (bytes .entry))) ⌝ }
 {
     let mut i = 0;
     while i < out.len() {

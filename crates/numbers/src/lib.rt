@@ -2,17 +2,19 @@
 // numbers that such a caller gives, as the types that the calls take.
 //
 // Every function takes any numbers and stores of any length.
+mod counting;
 mod laying;
 mod reading;
 mod refusals;
 mod telling;
 
+pub use counting::count_numbers;
 pub use laying::put_bytes;
 pub use reading::counts_from;
 pub use reading::extent_from;
-pub use refusals::Told;
+pub use refusals::NumberAndStep;
+pub use refusals::number_and_step;
 pub use refusals::number_of;
-pub use refusals::tell;
 pub use telling::tell_plan;
 pub use telling::tell_run;
 pub use telling::tell_tally;

@@ -2,30 +2,30 @@
 ghost use mathlib.Core.Path.{_≡_};
 ghost use Rattle.answers.specs.Answers.{refusalOf};
 ghost use Rattle.answers.specs.Runs.{reasonNumber};
-ghost use Rattle.numbers.specs.Numbered.{toldOf};
+ghost use Rattle.numbers.specs.Numbered.{refusalBy};
 use answers::Refusal;
 use answers::RunReason;
 
 // A refusal's number and step.
-pub struct Told {
+pub struct NumberAndStep {
     pub number: usize,
     pub step: usize,
 }
 
 // The number and step of what planning refuses.
-pub fn tell(r: Refusal) -> Told
-    ensures { λ t. ⌜ toldOf t ≡ refusalOf r ⌝ }
+pub fn number_and_step(r: Refusal) -> NumberAndStep
+    ensures { λ t. ⌜ refusalBy t ≡ refusalOf r ⌝ }
 {
     match r {
-        Refusal::Limits => Told { number: 1, step: 0 },
-        Refusal::Starts => Told { number: 2, step: 0 },
-        Refusal::Column => Told { number: 3, step: 0 },
-        Refusal::Order => Told { number: 4, step: 0 },
-        Refusal::Diagonal => Told { number: 5, step: 0 },
-        Refusal::Stores => Told { number: 6, step: 0 },
-        Refusal::LowerRoom(step) => Told { number: 7, step },
-        Refusal::UpperRoom(step) => Told { number: 8, step },
-        Refusal::OtherPlan => Told { number: 9, step: 0 },
+        Refusal::Limits => NumberAndStep { number: 1, step: 0 },
+        Refusal::Starts => NumberAndStep { number: 2, step: 0 },
+        Refusal::Column => NumberAndStep { number: 3, step: 0 },
+        Refusal::Order => NumberAndStep { number: 4, step: 0 },
+        Refusal::Diagonal => NumberAndStep { number: 5, step: 0 },
+        Refusal::Stores => NumberAndStep { number: 6, step: 0 },
+        Refusal::LowerRoom(step) => NumberAndStep { number: 7, step },
+        Refusal::UpperRoom(step) => NumberAndStep { number: 8, step },
+        Refusal::OtherPlan => NumberAndStep { number: 9, step: 0 },
     }
 }
 

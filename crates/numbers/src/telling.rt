@@ -3,12 +3,13 @@ ghost use mathlib.Core.Path.{_≡_};
 ghost use lib.ListN.{length};
 ghost use Rattle.answers.specs.Answers.{answerOf, verifyAnswerOf};
 ghost use Rattle.answers.specs.Runs.{runAnswerOf};
-ghost use Rattle.tally.specs.Calls.{answerOf as tallyAnswerOf};
-ghost use Rattle.numbers.specs.Numbered.{laid, refusalNumber, planNumbers, verifyNumbers, runNumbers, tallyNumbers};
+ghost use Rattle.tally.specs.Calls.{tallyAnswerOf};
+ghost use Rattle.numbers.specs.Numbered.{cutOrPadded, refusalNumber, planNumbers, verifyNumbers, runNumbers, tallyNumbers};
+use crate::counting::count_numbers;
 use crate::laying::put;
 use crate::laying::put_refusal;
+use crate::refusals::number_and_step;
 use crate::refusals::number_of;
-use crate::refusals::tell;
 use answers::PlanAnswer;
 use answers::RunAnswer;
 use answers::RunOutcome;
@@ -18,27 +19,28 @@ use tally::TallyAnswer;
 // Nine numbers: 0, 0 and the seven counts, or the refusal.
 pub fn tell_plan(answered: PlanAnswer, answer: &mut [usize]) -> usize
     ensures returned { λ r. ⌜ r ≡ refusalNumber (answerOf answered) ⌝ }
-    ensures told { λ r. ⌜ now (answer .exit) ≡ laid (length (now (answer .entry))) (planNumbers (answerOf answered)) ⌝ }
+    ensures numbers { λ r. ⌜ now (answer .exit) ≡ cutOrPadded (length (now (answer .entry))) (planNumbers (answerOf answered)) ⌝ }
 {
     match answered {
         PlanAnswer::Planned(c) => {
+            let counts = count_numbers(c);
             let numbers = [
                 0,
                 0,
-                c.n,
-                c.entries,
-                c.l_subscripts,
-                c.u_subscripts,
-                c.l_slots,
-                c.u_slots,
-                c.reads,
+                counts[0],
+                counts[1],
+                counts[2],
+                counts[3],
+                counts[4],
+                counts[5],
+                counts[6],
             ];
             put(&numbers, answer);
             0
         }
         PlanAnswer::Refused(refusal) => {
-            let told = tell(refusal);
-            put_refusal(told.number, told.step, answer)
+            let refused = number_and_step(refusal);
+            put_refusal(refused.number, refused.step, answer)
         }
     }
 }
@@ -46,13 +48,13 @@ pub fn tell_plan(answered: PlanAnswer, answer: &mut [usize]) -> usize
 // Two numbers: 0 and 0, or the refusal.
 pub fn tell_verify(answered: VerifyAnswer, answer: &mut [usize]) -> usize
     ensures returned { λ r. ⌜ r ≡ refusalNumber (verifyAnswerOf answered) ⌝ }
-    ensures told { λ r. ⌜ now (answer .exit) ≡ laid (length (now (answer .entry))) (verifyNumbers (verifyAnswerOf answered)) ⌝ }
+    ensures numbers { λ r. ⌜ now (answer .exit) ≡ cutOrPadded (length (now (answer .entry))) (verifyNumbers (verifyAnswerOf answered)) ⌝ }
 {
     match answered {
         VerifyAnswer::Agrees => put_refusal(0, 0, answer),
         VerifyAnswer::Refused(refusal) => {
-            let told = tell(refusal);
-            put_refusal(told.number, told.step, answer)
+            let refused = number_and_step(refusal);
+            put_refusal(refused.number, refused.step, answer)
         }
     }
 }
@@ -60,7 +62,7 @@ pub fn tell_verify(answered: VerifyAnswer, answer: &mut [usize]) -> usize
 // Three numbers: 0, 0 and the updates, or the refusal.
 pub fn tell_run(answered: RunAnswer, answer: &mut [usize]) -> usize
     ensures returned { λ r. ⌜ r ≡ refusalNumber (runAnswerOf answered) ⌝ }
-    ensures told { λ r. ⌜ now (answer .exit) ≡ laid (length (now (answer .entry))) (runNumbers (runAnswerOf answered)) ⌝ }
+    ensures numbers { λ r. ⌜ now (answer .exit) ≡ cutOrPadded (length (now (answer .entry))) (runNumbers (runAnswerOf answered)) ⌝ }
 {
     let outcome = answered.outcome;
     match outcome {
@@ -79,7 +81,7 @@ pub fn tell_run(answered: RunAnswer, answer: &mut [usize]) -> usize
 // Three numbers: 0, 0 and the new sum, or 19, 0 and the old one, which the tally keeps.
 pub fn tell_tally(sum: u32, answered: TallyAnswer, answer: &mut [usize]) -> usize
     ensures returned { λ r. ⌜ r ≡ refusalNumber (tallyAnswerOf answered) ⌝ }
-    ensures told { λ r. ⌜ now (answer .exit) ≡ laid (length (now (answer .entry))) (tallyNumbers sum (tallyAnswerOf answered)) ⌝ }
+    ensures numbers { λ r. ⌜ now (answer .exit) ≡ cutOrPadded (length (now (answer .entry))) (tallyNumbers sum (tallyAnswerOf answered)) ⌝ }
 {
     match answered {
         TallyAnswer::Sum(new) => {

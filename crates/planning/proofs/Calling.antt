@@ -10,19 +10,20 @@ use Rattle.foundation.specs.Plan.{Planning, Side, lower, upper}
 use Rattle.foundation.specs.Slots.{slotStarts}
 use Rattle.foundation.specs.PlanCall.{Counts, PlanStores, SideStores, subscripts, countsOf, planned, planAnswer, subscriptsAfter, startsAfter, slotStartsAfter, sideAfter, planLeaves}
 use Rattle.answers.specs.Answers.{refusalOf, answerOf}
-use Rattle.answers.specs.Stores.{planStores, WorkStores, workStores, workSizes, WorkLeft}
+use Rattle.answers.specs.Stores.{planStores, WorkStores, workStores, workSizes, WorkLeft, sideStores}
 use Rattle.answers.specs.declared.PlanCounts.{PlanCounts}
 use Rattle.answers.specs.declared.Refusal.{Refusal}
 use Rattle.answers.specs.declared.Refusal.the-variants.{Limits, Starts, Column, Order, Diagonal, Stores, LowerRoom, UpperRoom, OtherPlan}
 use Rattle.answers.specs.declared.PlanAnswer.{PlanAnswer}
 use Rattle.answers.specs.declared.PlanAnswer.the-variants.{Planned, Refused}
-use Rattle.inner_stores.specs.Clearing.{Zeros, SideZeros}
-use Rattle.inner_gathering.specs.Ready.{planOf}
-use Rattle.inner_gathering.proofs.Passing.{lent-n}
-use Rattle.inner_step.specs.Filled.{Filled, BothFilled}
-use Rattle.inner_step.proofs.Filled.{filled-contains}
-use Rattle.inner_plan_call.specs.Outcome.{PlannedAs}
-use Rattle.inner_plan_call.proofs.Answering.{planned-same}
+use Rattle.store_clear.specs.Clearing.{Zeros}
+use Rattle.store_lists.specs.Clearing.{SideZeros}
+use Rattle.plan_gather.specs.Ready.{planOf}
+use Rattle.plan_gather.proofs.Passing.{lent-n}
+use Rattle.plan_sides.specs.Filled.{Filled, BothFilled}
+use Rattle.plan_sides.proofs.Filled.{filled-contains}
+use Rattle.plan_call.specs.Outcome.{PlannedAs}
+use Rattle.plan_call.proofs.Answering.{planned-same}
 use Rattle.planning.specs.Calls.{PlanKept}
 
 -- ---- what the call leaves
@@ -53,7 +54,7 @@ leaves-zeros p (granted s) r lSubs lStarts lSlots uSubs uStarts uSlots e = absur
 -- a side that is filled with the plan is as the call should leave it
 side-left :
     (side : Side) (s : Planning) (n : ℕ) (subs starts slots subs′ starts′ slots′ : List ℕ) → length starts ≡ n → length slots ≡ suc n
-    → Filled s side n n (length subs) subs′ starts′ slots′
+    → Filled s side n n (length subs) (sideStores subs′ starts′ slots′)
     → sideAfter side n (granted s) (record { subs = subs; starts = starts; slotStarts = slots }) ≡ record { subs = subs′; starts = starts′; slotStarts = slots′ }
 unfolding sideAfter subscriptsAfter startsAfter slotStartsAfter resultStore subscripts
 side-left side s n subs starts slots subs′ starts′ slots′ a b h = rw (h .subs-are, h .starts-are, h .slots-are, a, b)
@@ -73,15 +74,15 @@ pub leaves-plan :
     (p : Lent) (answer : Answer Planning) (n : ℕ) (c : PlanCounts) (lSubs lStarts lSlots uSubs uStarts uSlots lSubs′ lStarts′ lSlots′ uSubs′ uStarts′ uSlots′ : List ℕ)
     → p .n ≡ n → ((s : Planning) → answer ≡ granted s → s ≡ planOf p) → answerOf (Planned c) ≡ planAnswer p answer
     → length lStarts′ ≡ length lStarts → length lSlots′ ≡ length lSlots → length uStarts′ ≡ length uStarts → length uSlots′ ≡ length uSlots
-    → BothFilled p n n (length lSubs) (length uSubs) lSubs′ lStarts′ lSlots′ uSubs′ uStarts′ uSlots′
+    → BothFilled p n n (length lSubs) (length uSubs) (planStores lSubs′ lStarts′ lSlots′ uSubs′ uStarts′ uSlots′)
     → planLeaves p answer (planStores lSubs lStarts lSlots uSubs uStarts uSlots) ≡ planStores lSubs′ lStarts′ lSlots′ uSubs′ uStarts′ uSlots′
 unfolding planLeaves planAnswer andThen answerOf
 leaves-plan p (refused number step) n c lSubs lStarts lSlots uSubs uStarts uSlots lSubs′ lStarts′ lSlots′ uSubs′ uStarts′ uSlots′ same is e _ _ _ _ verify =
     let z : _≡_ {A = ℕ} 0 1 = cc in
     absurd (omega arith)
 leaves-plan p (granted s) n c lSubs lStarts lSlots uSubs uStarts uSlots lSubs′ lStarts′ lSlots′ uSubs′ uStarts′ uSlots′ same is e nb nc ne nf verify =
-    let l = filled-contains (planOf p) lower n n (length lSubs) lSubs′ lStarts′ lSlots′ (verify .lowers) (omega arith) in
-    let u = filled-contains (planOf p) upper n n (length uSubs) uSubs′ uStarts′ uSlots′ (verify .uppers) (omega arith) in
+    let l = filled-contains (planOf p) lower (verify .lowers) (omega arith) in
+    let u = filled-contains (planOf p) upper (verify .uppers) (omega arith) in
     let a : sideAfter lower n (granted (planOf p)) (record { subs = lSubs; starts = lStarts; slotStarts = lSlots })
     ≡ record { subs = lSubs′; starts = lStarts′; slotStarts = lSlots′ } =
     side-left lower (planOf p) n lSubs lStarts lSlots lSubs′ lStarts′ lSlots′ (omega (arith, l .starts-size)) (omega (arith, l .slots-size)) (verify .lowers) in
@@ -146,7 +147,7 @@ module _ (most n : ℕ) (starts columns a b c d e f : List ℕ) (scratch scratch
 
   -- a plan that was made stands in its stores
   pub call-planned :
-      (v : PlanCounts) → r ≡ Planned v → PlannedAs r (lent n starts columns) n (length a) (length d) a′ b′ c′ d′ e′ f′
+      (v : PlanCounts) → r ≡ Planned v → PlannedAs r (lent n starts columns) n (length a) (length d) (planStores a′ b′ c′ d′ e′ f′)
       → PlanKept r most (lent n starts columns) (planStores a b c d e f) (planStores a′ b′ c′ d′ e′ f′) scratch scratch″
   call-planned v q stands = record {
     answer = says;
@@ -154,6 +155,6 @@ module _ (most n : ℕ) (starts columns a b c d e f : List ℕ) (scratch scratch
         sym (leaves-plan (lent n starts columns) _ n v a b c d e f a′ b′ c′ d′ e′ f′ (lent-n n starts columns)
         (planned-same most (lent n starts columns) (planStores a b c d e f) (workSizes scratch)) (ap answerOf (sym q) ∙ says)
         (lowers .second) (lowers .third) (uppers .second) (uppers .third)
-        (subst (λ (x : PlanAnswer). PlannedAs x (lent n starts columns) n (length a) (length d) a′ b′ c′ d′ e′ f′) q stands));
+        (subst (λ (x : PlanAnswer). PlannedAs x (lent n starts columns) n (length a) (length d) (planStores a′ b′ c′ d′ e′ f′)) q stands));
     work = left;
   }

@@ -8,10 +8,10 @@ ghost use Rattle.planning.specs.Calls.{PlanKept, VerifyKept};
 use answers::PlanAnswer;
 use answers::PlanCounts;
 use answers::VerifyAnswer;
-use inner_plan_call::judge_and_plan;
-use inner_stores::clear_side;
-use inner_stores::clear_work;
-use inner_verify_call::judge_and_verify;
+use plan_call::judge_and_plan;
+use store_lists::clear_side;
+use store_lists::clear_work;
+use verify_call::judge_and_verify;
 
 // The plan of a pattern of n rows, `most` being the largest n that is taken. Result stores: for each side the subscripts (any length), n
 // starts of lists, n+1 starts of value slots. Work stores: four of n+1 places, two of n.

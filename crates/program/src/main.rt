@@ -9,7 +9,7 @@ use libc::STDERR_FILENO;
 use libc::STDOUT_FILENO;
 
 // One place more than the longest job has, so that a longer one is seen to be longer.
-const ROOM: usize = 16_385;
+const ROOM: usize = job::LONGEST + 1;
 
 // The first `count` places, or all of a shorter store.
 fn front(store: &[u8], count: usize) -> &[u8] {

@@ -3,7 +3,7 @@
 // `add` alone touches the record: it reads the sum, has `sum_with` decide by value, and stores what comes back.
 ghost use mathlib.Core.Path.{_≡_};
 ghost use Rattle.foundation.specs.Tally.{tallyAnswer, tallyAfter};
-ghost use Rattle.tally.specs.Calls.{answerOf};
+ghost use Rattle.tally.specs.Calls.{tallyAnswerOf};
 
 // The record that stays with the caller. An empty one is `Tally { sum: 0 }`.
 pub struct Tally {
@@ -28,7 +28,7 @@ const LARGEST_SUM: usize = 4_294_967_295;
 
 // The sum with `updates` more, if it does not pass the largest. The room is found first, so that no sum wraps.
 pub fn sum_with(sum: u32, updates: usize) -> Added
-    ensures { λ r. ⌜ (r .sum ≡ tallyAfter sum updates) × (answerOf (r .answer) ≡ tallyAnswer sum updates) ⌝ }
+    ensures { λ r. ⌜ (r .sum ≡ tallyAfter sum updates) × (tallyAnswerOf (r .answer) ≡ tallyAnswer sum updates) ⌝ }
 {
     let room = LARGEST_SUM - sum as usize;
     if updates <= room {
@@ -46,7 +46,7 @@ pub fn sum_with(sum: u32, updates: usize) -> Added
 
 // Adds the updates of a finished run to the record, or answers 19 and leaves the record as it is.
 pub fn add(tally: &mut Tally, updates: usize) -> TallyAnswer
-    ensures { λ r. ⌜ (now (tally .exit) .sum ≡ tallyAfter (now (tally .entry) .sum) updates) × (answerOf r ≡ tallyAnswer (now (tally .entry) .sum) updates) ⌝ }
+    ensures { λ r. ⌜ (now (tally .exit) .sum ≡ tallyAfter (now (tally .entry) .sum) updates) × (tallyAnswerOf r ≡ tallyAnswer (now (tally .entry) .sum) updates) ⌝ }
 {
     let added = sum_with(tally.sum, updates);
     tally.sum = added.sum;

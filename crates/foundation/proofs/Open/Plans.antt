@@ -3,7 +3,7 @@ use Rattle.foundation.specs.Pattern.{lent, column, present, rowOf, patte
 use Rattle.foundation.specs.Plan.{list, beforeSteps, unmetRows, brings, fromRows, fromSteps, gathered, handOn, readsAt, turn, after, plan}
 use Rattle.foundation.specs.Subscripts.{kept, only, soleStep, sharedEnd, startAt, addedAt, shared, opened, startsStore, short, roomFault}
 use Rattle.foundation.specs.Slots.{slotIn, hasSlot, slotsOf, slotStarts, slotAt}
-use Rattle.foundation.specs.PlanCall.{subscripts, countsOf, workFits, startsSized, sizesFit, planned, planAnswer, subscriptsAfter, startsAfter, slotStartsAfter, sideAfter, planLeaves, sameCounts, sameSide, agrees, held}
+use Rattle.foundation.specs.PlanCall.{countNumbers, subscripts, countsOf, workFits, startsSized, sizesFit, planned, planAnswer, subscriptsAfter, startsAfter, slotStartsAfter, sideAfter, planLeaves, sameCounts, sameSide, agrees, held}
 use Rattle.foundation.proofs.Open.Lists.{answers}
 
 unfoldable pub patterns : Unit {0}
@@ -11,5 +11,5 @@ unfolding answers lent column present rowOf patternOf maxN maxEntries tooLarge n
 patterns = tt
 
 unfoldable pub plans : Unit {0}
-unfolding patterns list beforeSteps unmetRows brings fromRows fromSteps gathered handOn readsAt turn after plan kept only soleStep sharedEnd startAt addedAt shared opened startsStore short roomFault slotIn hasSlot slotsOf slotStarts slotAt subscripts countsOf workFits startsSized sizesFit planned planAnswer subscriptsAfter startsAfter slotStartsAfter sideAfter planLeaves sameCounts sameSide agrees held
+unfolding patterns list beforeSteps unmetRows brings fromRows fromSteps gathered handOn readsAt turn after plan kept only soleStep sharedEnd startAt addedAt shared opened startsStore short roomFault slotIn hasSlot slotsOf slotStarts slotAt countNumbers subscripts countsOf workFits startsSized sizesFit planned planAnswer subscriptsAfter startsAfter slotStartsAfter sideAfter planLeaves sameCounts sameSide agrees held
 plans = tt

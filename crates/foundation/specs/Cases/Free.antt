@@ -7,19 +7,11 @@ use Rattle.foundation.specs.Pattern.{lent, Pattern, patternOf}
 use Rattle.foundation.specs.Square.{Square}
 use Rattle.foundation.specs.Free.{FreeStep, FreeState, freeStart, taken, freeRun, freeAfter}
 use Rattle.foundation.specs.Table.{Case, case}
-use Rattle.foundation.specs.Cases.Show.{flag, flags, row}
+use Rattle.foundation.specs.Cases.Show.{flag, flags, row, tall, three}
 
 -- rows {1,3}, {2,3}, {1,3}
 abbrev pub threeFields : Pattern
 threeFields = patternOf (lent 3 (0 ∷ 2 ∷ 4 ∷ 6 ∷ []) (1 ∷ 3 ∷ 2 ∷ 3 ∷ 1 ∷ 3 ∷ []))
-
--- every place of three rows and columns
-abbrev pub three : Pattern
-three = record { n = 3; height = 3; row = λ i. 1 ∷ 2 ∷ 3 ∷ [] }
-
--- three rows on two columns
-abbrev pub tall : Pattern
-tall = record { n = 2; height = 3; row = λ i. 1 ∷ 2 ∷ [] }
 
 -- the number at (i, j) is ij
 abbrev pub digits : Square ℕ

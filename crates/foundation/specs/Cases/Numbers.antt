@@ -11,7 +11,7 @@ use Rattle.foundation.specs.Numbers.{plusZero, isZero, finite, magnitude
 use Rattle.foundation.specs.Square.{swap, placed, exchanged}
 use Rattle.foundation.specs.Text.{ascii}
 use Rattle.foundation.specs.Table.{Case, case, told}
-use Rattle.foundation.specs.Cases.Show.{flags, float, floats, pattern, patterns, places, row}
+use Rattle.foundation.specs.Cases.Show.{flags, float, floats, four, pattern, patterns, places, row}
 
 -- +0, -0, the least number above 0, 1.5, -1.5, the largest number, both infinities, not a number
 abbrev pub kinds : List ℕ
@@ -65,9 +65,6 @@ numberCases =
 -- a square whose place (i, j) holds ij
 abbrev pub digits : ℕ → ℕ → ℕ
 digits i j = 10 * i + j
-
-abbrev pub four : List ℕ
-four = 1 ∷ 2 ∷ 3 ∷ 4 ∷ []
 
 unfoldable pub squareCases : List Case
 squareCases =

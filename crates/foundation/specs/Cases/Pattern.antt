@@ -4,7 +4,7 @@ use Prim.Native.Nat.{ℕ}
 use lib.ListN.{replicate}
 use Rattle.foundation.specs.Pattern.{Lent, lent, Pattern, column, present, patternFault, judged}
 use Rattle.foundation.specs.Table.{Case, case, told}
-use Rattle.foundation.specs.Cases.Show.{flag, places, row}
+use Rattle.foundation.specs.Cases.Show.{flag, places, row, tall}
 
 -- two rows, {1,2} and {2}, with these starts; with these columns
 abbrev pub startsAs : ℕ → List ℕ → Lent
@@ -24,10 +24,6 @@ fault p = patternFault 1024 p
 -- n, the height, and the rows from 0 to n+2
 abbrev pub showPattern : Pattern → List (List ℕ)
 showPattern p = (p .n ∷ p .height ∷ []) ∷ map (p .row) (0 ∷ 1 ∷ 2 ∷ 3 ∷ 4 ∷ [])
-
--- a pattern of three rows on two columns, each row {1,2}, as rows before the first and after the last would be too
-abbrev pub tall : Pattern
-tall = record { n = 2; height = 3; row = λ i. 1 ∷ 2 ∷ [] }
 
 unfoldable pub patternCases : List Case
 patternCases =

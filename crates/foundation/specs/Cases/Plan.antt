@@ -9,7 +9,7 @@ use Rattle.foundation.specs.Subscripts.{kept, only, soleStep, shared, op
 use Rattle.foundation.specs.Slots.{Slot, none, onDiagonal, inSide, slotIn, hasSlot, slotsOf, slotStarts, slotAt}
 use Rattle.foundation.specs.PlanCall.{subscripts}
 use Rattle.foundation.specs.Table.{Case, case, told, fourFields}
-use Rattle.foundation.specs.Cases.Show.{flag, flags, places, row}
+use Rattle.foundation.specs.Cases.Show.{flag, flags, four, places, row, threeOnTwo}
 
 -- rows {1,3,4,5,6}, {2,5}, {3,6}, {2,4,6}, {5,7}, {3,6}, {2,6,7}
 abbrev pub sevenFields : Lent
@@ -25,24 +25,17 @@ sixFields = lent 6 (0 ∷ 2 ∷ 4 ∷ 5 ∷ 9 ∷ 11 ∷ 14 ∷ []) (1 ∷ 5 ∷
 abbrev pub twoPairs : Lent
 twoPairs = lent 4 (0 ∷ 2 ∷ 4 ∷ 6 ∷ 8 ∷ []) (1 ∷ 4 ∷ 2 ∷ 3 ∷ 2 ∷ 3 ∷ 1 ∷ 4 ∷ [])
 
--- three rows on two columns: {1,2}, {2}, {1,2}
-abbrev pub threeOnTwo : Pattern
-threeOnTwo = record { n = 2; height = 3; row = (patternOf (lent 3 (0 ∷ 2 ∷ 3 ∷ 5 ∷ []) (1 ∷ 2 ∷ 2 ∷ 1 ∷ 2 ∷ []))) .row }
-
 -- three rows on two columns, whose row i names column i, and row 1 a column past n
 abbrev pub pastN : Pattern
 pastN = record { n = 2; height = 3; row = λ i. cond (eqb i 1) (1 ∷ 3 ∷ []) (i ∷ []) }
 
-abbrev pub planOf : Lent → Planning
-planOf p = plan (patternOf p)
-
 -- the subscripts of a side, their starts, the starts of its slots
 abbrev pub showSide : Lent → Side → List (List ℕ)
-showSide p side = subscripts (planOf p) side (p .n) ∷ startsStore (planOf p) side (p .n) ∷ slotStarts (planOf p) side (p .n) ∷ []
+showSide p side = subscripts (plan (patternOf p)) side (p .n) ∷ startsStore (plan (patternOf p)) side (p .n) ∷ slotStarts (plan (patternOf p)) side (p .n) ∷ []
 
 -- planning of the seven fields, with so much room for L and for U
 abbrev pub roomFor : ℕ → ℕ → List (List ℕ)
-roomFor roomL roomU = told (λ s. (s .reads ∷ []) ∷ []) (roomFault (planOf sevenFields) roomL roomU 1 7)
+roomFor roomL roomU = told (λ s. (s .reads ∷ []) ∷ []) (roomFault (plan (patternOf sevenFields)) roomL roomU 1 7)
 
 -- a plan with given lists, whatever they are
 abbrev pub withLists : (L U : ℕ → List ℕ) → Planning
@@ -61,39 +54,36 @@ oddLower k = cond (eqb k 2) (1 ∷ 2 ∷ 4 ∷ []) []
 abbrev pub oddUpper : ℕ → List ℕ
 oddUpper k = cond (eqb k 2) (1 ∷ 2 ∷ 3 ∷ []) []
 
-abbrev pub four : List ℕ
-four = 1 ∷ 2 ∷ 3 ∷ 4 ∷ []
-
 unfoldable pub planCases : List Case
 planCases =
     -- "Each unmet row i of C_k joins L_k, its R_i joins U_k, and it is met": the rows first met at each step, once, at their least column
-    case (map ((planOf sevenFields) .firstMet) (1 ∷ 2 ∷ 3 ∷ 4 ∷ 5 ∷ 6 ∷ 7 ∷ []))
+    case (map ((plan (patternOf sevenFields)) .firstMet) (1 ∷ 2 ∷ 3 ∷ 4 ∷ 5 ∷ 6 ∷ 7 ∷ []))
     ((1 ∷ []) ∷ (2 ∷ 4 ∷ 7 ∷ []) ∷ (3 ∷ 6 ∷ []) ∷ [] ∷ (5 ∷ []) ∷ [] ∷ [] ∷ [])
     -- "No row is met at first"; after step 2 rows 1, 2, 4 and 7 are, after all steps every row
     ∷ case
     (flags (map ((after (patternOf sevenFields) 0) .met) (1 ∷ 2 ∷ 3 ∷ 4 ∷ 5 ∷ 6 ∷ 7 ∷ []))
     ∷ flags (map ((after (patternOf sevenFields) 2) .met) (1 ∷ 2 ∷ 3 ∷ 4 ∷ 5 ∷ 6 ∷ 7 ∷ []))
-    ∷ flags (map ((planOf sevenFields) .met) (0 ∷ 1 ∷ 2 ∷ 3 ∷ 4 ∷ 5 ∷ 6 ∷ 7 ∷ 8 ∷ []))
+    ∷ flags (map ((plan (patternOf sevenFields)) .met) (0 ∷ 1 ∷ 2 ∷ 3 ∷ 4 ∷ 5 ∷ 6 ∷ 7 ∷ 8 ∷ []))
     ∷ [])
     ((0 ∷ 0 ∷ 0 ∷ 0 ∷ 0 ∷ 0 ∷ 0 ∷ []) ∷ (1 ∷ 1 ∷ 0 ∷ 1 ∷ 0 ∷ 0 ∷ 1 ∷ []) ∷ (0 ∷ 1 ∷ 1 ∷ 1 ∷ 1 ∷ 1 ∷ 1 ∷ 1 ∷ 0 ∷ []) ∷ [])
     -- "If L_k has more than one member, k joins S_r, r being the least member of U_k above k": not step 1, whose L has one; a set of two has its newest first
-    ∷ case (map ((planOf sevenFields) .S) (0 ∷ 1 ∷ 2 ∷ 3 ∷ 4 ∷ 5 ∷ 6 ∷ 7 ∷ 8 ∷ []))
+    ∷ case (map ((plan (patternOf sevenFields)) .S) (0 ∷ 1 ∷ 2 ∷ 3 ∷ 4 ∷ 5 ∷ 6 ∷ 7 ∷ 8 ∷ []))
     ([] ∷ [] ∷ [] ∷ [] ∷ (2 ∷ []) ∷ (4 ∷ []) ∷ (5 ∷ 3 ∷ []) ∷ (6 ∷ []) ∷ [] ∷ [])
     -- "the members of L_l and U_l that are k or more join L_k and U_k": all L, then all U
-    ∷ case (map (list (planOf sevenFields) lower) (1 ∷ 2 ∷ 3 ∷ 4 ∷ 5 ∷ 6 ∷ 7 ∷ []))
+    ∷ case (map (list (plan (patternOf sevenFields)) lower) (1 ∷ 2 ∷ 3 ∷ 4 ∷ 5 ∷ 6 ∷ 7 ∷ []))
     ((1 ∷ []) ∷ (2 ∷ 4 ∷ 7 ∷ []) ∷ (3 ∷ 6 ∷ []) ∷ (4 ∷ 7 ∷ []) ∷ (5 ∷ 7 ∷ []) ∷ (6 ∷ 7 ∷ []) ∷ (7 ∷ []) ∷ [])
-    ∷ case (map (list (planOf sevenFields) upper) (1 ∷ 2 ∷ 3 ∷ 4 ∷ 5 ∷ 6 ∷ 7 ∷ []))
+    ∷ case (map (list (plan (patternOf sevenFields)) upper) (1 ∷ 2 ∷ 3 ∷ 4 ∷ 5 ∷ 6 ∷ 7 ∷ []))
     ((1 ∷ 3 ∷ 4 ∷ 5 ∷ 6 ∷ []) ∷ (2 ∷ 4 ∷ 5 ∷ 6 ∷ 7 ∷ []) ∷ (3 ∷ 6 ∷ []) ∷ (4 ∷ 5 ∷ 6 ∷ 7 ∷ []) ∷ (5 ∷ 6 ∷ 7 ∷ []) ∷ (6 ∷ 7 ∷ []) ∷ (7 ∷ []) ∷ [])
     -- the same of six fields: all L, all U
-    ∷ case (map (list (planOf sixFields) lower) (1 ∷ 2 ∷ 3 ∷ 4 ∷ 5 ∷ 6 ∷ []))
+    ∷ case (map (list (plan (patternOf sixFields)) lower) (1 ∷ 2 ∷ 3 ∷ 4 ∷ 5 ∷ 6 ∷ []))
     ((1 ∷ 2 ∷ 4 ∷ []) ∷ (2 ∷ 4 ∷ 6 ∷ []) ∷ (3 ∷ 5 ∷ []) ∷ (4 ∷ 6 ∷ []) ∷ (5 ∷ 6 ∷ []) ∷ (6 ∷ []) ∷ [])
-    ∷ case (map (list (planOf sixFields) upper) (1 ∷ 2 ∷ 3 ∷ 4 ∷ 5 ∷ 6 ∷ []))
+    ∷ case (map (list (plan (patternOf sixFields)) upper) (1 ∷ 2 ∷ 3 ∷ 4 ∷ 5 ∷ 6 ∷ []))
     ((1 ∷ 2 ∷ 4 ∷ 5 ∷ []) ∷ (2 ∷ 4 ∷ 5 ∷ 6 ∷ []) ∷ (3 ∷ 5 ∷ []) ∷ (4 ∷ 5 ∷ 6 ∷ []) ∷ (5 ∷ 6 ∷ []) ∷ (6 ∷ []) ∷ [])
     -- no list before step 1 or after step n
-    ∷ case (list (planOf sevenFields) lower 0 ∷ list (planOf sevenFields) upper 0 ∷ list (planOf sevenFields) lower 8 ∷ list (planOf sevenFields) upper 8 ∷ [])
+    ∷ case (list (plan (patternOf sevenFields)) lower 0 ∷ list (plan (patternOf sevenFields)) upper 0 ∷ list (plan (patternOf sevenFields)) lower 8 ∷ list (plan (patternOf sevenFields)) upper 8 ∷ [])
     ([] ∷ [] ∷ [] ∷ [] ∷ [])
     -- "each C_k once, each R_i once, and L_l and U_l once for each l taken from an S"; none before the first step
-    ∷ row ((planOf sevenFields) .reads ∷ (planOf sixFields) .reads ∷ (after (patternOf sixFields) 0) .reads ∷ []) (65 ∷ 55 ∷ 0 ∷ [])
+    ∷ row ((plan (patternOf sevenFields)) .reads ∷ (plan (patternOf sixFields)) .reads ∷ (after (patternOf sixFields) 0) .reads ∷ []) (65 ∷ 55 ∷ 0 ∷ [])
     -- three rows on two columns: rows are counted by the height, steps by n; step 2 has no r, and joins no step's set
     ∷ case (map (list (plan threeOnTwo) lower) (1 ∷ 2 ∷ 3 ∷ [])) ((1 ∷ 3 ∷ []) ∷ (2 ∷ 3 ∷ []) ∷ [] ∷ [])
     ∷ case (map (list (plan threeOnTwo) upper) (1 ∷ 2 ∷ 3 ∷ [])) ((1 ∷ 2 ∷ []) ∷ (2 ∷ []) ∷ [] ∷ [])
@@ -106,11 +96,11 @@ planCases =
 unfoldable pub subscriptCases : List Case
 subscriptCases =
     -- "The kept list of L_k or U_k omits k and ascends"
-    case (map (kept (planOf sixFields) lower) (1 ∷ 2 ∷ 3 ∷ 4 ∷ 5 ∷ 6 ∷ [])) ((2 ∷ 4 ∷ []) ∷ (4 ∷ 6 ∷ []) ∷ (5 ∷ []) ∷ (6 ∷ []) ∷ (6 ∷ []) ∷ [] ∷ [])
-    ∷ case (map (kept (planOf sixFields) upper) (1 ∷ 2 ∷ 3 ∷ 4 ∷ 5 ∷ 6 ∷ []))
+    case (map (kept (plan (patternOf sixFields)) lower) (1 ∷ 2 ∷ 3 ∷ 4 ∷ 5 ∷ 6 ∷ [])) ((2 ∷ 4 ∷ []) ∷ (4 ∷ 6 ∷ []) ∷ (5 ∷ []) ∷ (6 ∷ []) ∷ (6 ∷ []) ∷ [] ∷ [])
+    ∷ case (map (kept (plan (patternOf sixFields)) upper) (1 ∷ 2 ∷ 3 ∷ 4 ∷ 5 ∷ 6 ∷ []))
     ((2 ∷ 4 ∷ 5 ∷ []) ∷ (4 ∷ 5 ∷ 6 ∷ []) ∷ (5 ∷ []) ∷ (5 ∷ 6 ∷ []) ∷ (6 ∷ []) ∷ [] ∷ [])
     -- "if S_k is one step l and no row was first met at k": at steps 4 and 7; at 5 a row is first met, at 6 there are two steps
-    ∷ row (map (soleStep (planOf sevenFields)) (1 ∷ 2 ∷ 3 ∷ 4 ∷ 5 ∷ 6 ∷ 7 ∷ [])) (0 ∷ 0 ∷ 0 ∷ 2 ∷ 0 ∷ 0 ∷ 6 ∷ [])
+    ∷ row (map (soleStep (plan (patternOf sevenFields))) (1 ∷ 2 ∷ 3 ∷ 4 ∷ 5 ∷ 6 ∷ 7 ∷ [])) (0 ∷ 0 ∷ 0 ∷ 2 ∷ 0 ∷ 0 ∷ 6 ∷ [])
     -- the one member of a list with one
     ∷ row (only [] ∷ only (4 ∷ []) ∷ only (4 ∷ 2 ∷ []) ∷ []) (0 ∷ 4 ∷ 0 ∷ [])
     -- L's and U's subscripts, starts, and starts of slots. U: step 2 shares three with the end of step 1's list, step 4 has 2's start plus 1, step 5 finds its list of k-1 in the middle
@@ -124,7 +114,7 @@ subscriptCases =
     ∷ case (showSide twoPairs lower) ((4 ∷ 3 ∷ []) ∷ (0 ∷ 1 ∷ 2 ∷ 2 ∷ []) ∷ (0 ∷ 1 ∷ 2 ∷ 2 ∷ 2 ∷ []) ∷ [])
     ∷ case (showSide twoPairs upper) ((4 ∷ 3 ∷ []) ∷ (0 ∷ 1 ∷ 2 ∷ 2 ∷ []) ∷ (0 ∷ 1 ∷ 2 ∷ 2 ∷ 2 ∷ []) ∷ [])
     -- before the first step a side's store is empty, and no list has a start
-    ∷ case ((shared (planOf sixFields) lower 0) .store ∷ map ((shared (planOf sixFields) lower 0) .start) (0 ∷ 1 ∷ 2 ∷ []) ∷ []) ([] ∷ (0 ∷ 0 ∷ 0 ∷ []) ∷ [])
+    ∷ case ((shared (plan (patternOf sixFields)) lower 0) .store ∷ map ((shared (plan (patternOf sixFields)) lower 0) .start) (0 ∷ 1 ∷ 2 ∷ []) ∷ []) ([] ∷ (0 ∷ 0 ∷ 0 ∷ []) ∷ [])
     -- a start and a length open to a list
     ∷ row (opened (5 ∷ 6 ∷ 7 ∷ 8 ∷ []) 1 2) (6 ∷ 7 ∷ [])
     ∷ []
@@ -144,16 +134,16 @@ roomCases =
     -- 8 at the first step
     ∷ case (roomFor 4 3) ((0 ∷ 8 ∷ 1 ∷ []) ∷ [])
     -- no step left, none asked
-    ∷ case (told (λ s. (s .reads ∷ []) ∷ []) (roomFault (planOf sevenFields) 0 0 1 0)) ((1 ∷ []) ∷ (65 ∷ []) ∷ [])
+    ∷ case (told (λ s. (s .reads ∷ []) ∷ []) (roomFault (plan (patternOf sevenFields)) 0 0 1 0)) ((1 ∷ []) ∷ (65 ∷ []) ∷ [])
     ∷ []
 
 unfoldable pub slotCases : List Case
 slotCases =
     -- "The plan has a slot for place (i, j) if i = j, if j is larger than i and in U_i, or if i is larger than j and in L_j": the four fields
-    case (places four four (λ i j. flag (hasSlot (planOf fourFields) i j)))
+    case (places four four (λ i j. flag (hasSlot (plan (patternOf fourFields)) i j)))
     ((1 ∷ 0 ∷ 1 ∷ 0 ∷ []) ∷ (0 ∷ 1 ∷ 1 ∷ 1 ∷ []) ∷ (1 ∷ 0 ∷ 1 ∷ 1 ∷ []) ∷ (0 ∷ 1 ∷ 1 ∷ 1 ∷ []) ∷ [])
     -- "Value slots run list after list without sharing; the diagonal has n slots of its own"
-    ∷ case (places four four (λ i j. slotNumber (slotAt (planOf fourFields) i j)))
+    ∷ case (places four four (λ i j. slotNumber (slotAt (plan (patternOf fourFields)) i j)))
     ((100 ∷ 0 ∷ 300 ∷ 0 ∷ []) ∷ (0 ∷ 101 ∷ 301 ∷ 302 ∷ []) ∷ (200 ∷ 0 ∷ 102 ∷ 303 ∷ []) ∷ (0 ∷ 201 ∷ 202 ∷ 103 ∷ []) ∷ [])
     -- whatever the lists: L_2 = {1,2,4} and U_2 = {1,2,3} give slots to (4,2) and (2,3) alone beside the diagonal
     ∷ case (places four four (λ i j. flag (slotIn oddLower oddUpper i j)))
@@ -163,5 +153,5 @@ slotCases =
     ∷ case (places four four (λ i j. slotNumber (slotAt (withLists oddLower oddUpper) i j)))
     ((100 ∷ 0 ∷ 0 ∷ 0 ∷ []) ∷ (0 ∷ 101 ∷ 301 ∷ 0 ∷ []) ∷ (0 ∷ 0 ∷ 102 ∷ 0 ∷ []) ∷ (0 ∷ 201 ∷ 0 ∷ 103 ∷ []) ∷ [])
     -- how many slots the first k lists have
-    ∷ row (map (slotsOf (planOf sevenFields) upper) (0 ∷ 1 ∷ 2 ∷ 3 ∷ 7 ∷ [])) (0 ∷ 4 ∷ 8 ∷ 9 ∷ 15 ∷ [])
+    ∷ row (map (slotsOf (plan (patternOf sevenFields)) upper) (0 ∷ 1 ∷ 2 ∷ 3 ∷ 7 ∷ [])) (0 ∷ 4 ∷ 8 ∷ 9 ∷ 15 ∷ [])
     ∷ []

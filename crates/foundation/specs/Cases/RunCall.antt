@@ -8,7 +8,7 @@ use Rattle.foundation.specs.Reference.{Choice, largest, listed, Extent, 
 use Rattle.foundation.specs.PlanCall.{Counts, SideStores, WorkSizes, LentPlan}
 use Rattle.foundation.specs.RunCall.{Lending, Ran, RunStores, ran, runAnswer, runLeaves, legal, rowsInRange, choiceFits, extentFits, valueAt, rightAt}
 use Rattle.foundation.specs.Table.{Case, case, told}
-use Rattle.foundation.specs.Cases.Show.{flag, flags, floats, pattern, patterns, places, refusalNumber, row}
+use Rattle.foundation.specs.Cases.Show.{flag, flags, floats, pattern, patterns, places, refusalNumber, row, tall}
 use Rattle.foundation.specs.Cases.PlanCall.{work}
 use Rattle.foundation.specs.Cases.LentPlan.{countsFrom, side}
 
@@ -172,10 +172,6 @@ runCases =
     ∷ case (says (run largest whole (lend (replicate 6 0x7FF8000000000000) right 3 3 3 1 2))) ((0 ∷ 11 ∷ 0 ∷ []) ∷ [])
     ∷ case (says (run largest (cut 4) fits)) ((0 ∷ 12 ∷ 0 ∷ []) ∷ [])
     ∷ []
-
--- three rows on two columns
-abbrev pub tall : Pattern
-tall = record { n = 2; height = 3; row = λ i. 1 ∷ 2 ∷ [] }
 
 unfoldable pub orderCases : List Case
 orderCases =

@@ -4,6 +4,7 @@ use mathlib.Core.List.{List, [], _∷_, map}
 use Prim.Native.Nat.{ℕ}
 use lib.Ieee.{Float, binary64, ofBits, toBits}
 use Rattle.foundation.specs.Answer.{Answer, refused, granted}
+use Rattle.foundation.specs.Pattern.{Pattern, lent, patternOf}
 use Rattle.foundation.specs.Table.{Case, case}
 
 -- 1 for what holds, 0 for what does not
@@ -38,3 +39,19 @@ row found expected = case (found ∷ []) (expected ∷ [])
 abbrev pub refusalNumber : {A : Type 0} → Answer A → ℕ
 refusalNumber (refused number step) = number
 refusalNumber (granted a) = 0
+
+-- the rows or columns of four fields
+abbrev pub four : List ℕ
+four = 1 ∷ 2 ∷ 3 ∷ 4 ∷ []
+
+-- every place of three rows and columns
+abbrev pub three : Pattern
+three = record { n = 3; height = 3; row = λ i. 1 ∷ 2 ∷ 3 ∷ [] }
+
+-- a pattern of three rows on two columns, each row {1,2}, as rows before the first and after the last would be too
+abbrev pub tall : Pattern
+tall = record { n = 2; height = 3; row = λ i. 1 ∷ 2 ∷ [] }
+
+-- three rows on two columns: {1,2}, {2}, {1,2}
+abbrev pub threeOnTwo : Pattern
+threeOnTwo = record { n = 2; height = 3; row = (patternOf (lent 3 (0 ∷ 2 ∷ 3 ∷ 5 ∷ []) (1 ∷ 2 ∷ 2 ∷ 1 ∷ 2 ∷ []))) .row }

@@ -7,14 +7,11 @@ use Rattle.foundation.specs.Plan.{lower, upper, plan}
 use Rattle.foundation.specs.Square.{Square}
 use Rattle.foundation.specs.Shown.{atSide, shown, shownDiagonal, laid}
 use Rattle.foundation.specs.Table.{Case, case, fourFields}
-use Rattle.foundation.specs.Cases.Show.{float, floats, pattern, patterns, places, row}
+use Rattle.foundation.specs.Cases.Show.{float, floats, four, pattern, patterns, places, row}
 
 -- a square whose place (i, j) has the bit pattern ij
 abbrev pub digits : Square Float
 digits i j = float (10 * i + j)
-
-abbrev pub four : List ℕ
-four = 1 ∷ 2 ∷ 3 ∷ 4 ∷ []
 
 unfoldable pub shownCases : List Case
 shownCases =

@@ -1,6 +1,6 @@
 -- The parts of a step and of back substitution, one by one: which rows, columns and numbers each looks at.
 use mathlib.Core.Bool.{Bool, true, false, cond, _&&_}
-use mathlib.Core.List.{List, [], _∷_, map}
+use mathlib.Core.List.{List, [], _∷_, _++_, map}
 use Prim.Native.Nat.{ℕ}
 use lib.Dec.{eqb}
 use lib.Ieee.{Float}
@@ -8,7 +8,7 @@ use Rattle.foundation.specs.Pattern.{lent, Pattern, patternOf}
 use Rattle.foundation.specs.Square.{Square}
 use Rattle.foundation.specs.Reference.{largest, listed, whole, cut, stepsOf, pivotRow, best, eliminatedRight, updatesAt, soundUpdate, soundPlace, soundRow, soundStep, noPivot, notFinite, numberOf, stopped, step, starting, Checked, substituted, solvedRow, solved, ended, reference}
 use Rattle.foundation.specs.Table.{Case, case}
-use Rattle.foundation.specs.Cases.Show.{flag, flags, float, pattern, row}
+use Rattle.foundation.specs.Cases.Show.{flag, flags, float, pattern, row, threeOnTwo}
 use Rattle.foundation.specs.Cases.Reference.{squareOf, sideOf, courseShown}
 
 -- 1, 2, the largest number, the least, infinity
@@ -46,15 +46,15 @@ entries = sideOf (0x4010000000000000 ∷ one ∷ twice ∷ [])
 abbrev pub soundSecond : List (List ℕ) → List ℕ → ℕ
 soundSecond rows right = flag (soundRow 2 1 (squareOf rows) (sideOf right) 2)
 
+-- right sides of +0 and -0 in rows 2 and 3 after step 1, of this multiplier and this right side of the pivot row
+abbrev pub followed : ℕ → ℕ → List ℕ
+followed m right = map (λ i. pattern (eliminatedRight 1 (λ j. float m) (sideOf (right ∷ 0 ∷ 0x8000000000000000 ∷ [])) i)) (2 ∷ 3 ∷ [])
+
 abbrev pub checkedShown : Checked → List ℕ
 checkedShown c = pattern (c .value) ∷ flag (c .sound) ∷ []
 
 abbrev pub from : ℕ → Bool → Checked
 from value sound = record { value = float value; sound = sound }
-
--- rows {1,2}, {2}, {1,2}: three rows on two columns
-abbrev pub threeOnTwo : Pattern
-threeOnTwo = record { n = 2; height = 3; row = (patternOf (lent 3 (0 ∷ 2 ∷ 3 ∷ 5 ∷ []) (1 ∷ 2 ∷ 2 ∷ 1 ∷ 2 ∷ []))) .row }
 
 unfoldable pub partCases : List Case
 partCases =
@@ -68,23 +68,32 @@ partCases =
     -- "The right side follows": rows below k alone
     ∷ row (map (λ i. pattern (eliminatedRight 2 ones (sideOf (one ∷ twice ∷ one ∷ twice ∷ [])) i)) (1 ∷ 2 ∷ 3 ∷ 4 ∷ []))
     (one ∷ twice ∷ 0xBFF0000000000000 ∷ 0x0000000000000000 ∷ [])
+    -- "with m not zero": m is 1 and -1, the pivot row's right side +0 and -0, rows 2 and 3 have +0 and -0; where m is +0 or -0 all stays, beside 1 and -1
+    ∷ case
+    (map (λ m. followed m 0) (one ∷ 0xBFF0000000000000 ∷ []) ++ map (λ m. followed m 0x8000000000000000) (one ∷ 0xBFF0000000000000 ∷ []))
+    ((0 ∷ 0x8000000000000000 ∷ []) ∷ (0 ∷ 0 ∷ []) ∷ (0 ∷ 0 ∷ []) ∷ (0 ∷ 0x8000000000000000 ∷ []) ∷ [])
+    ∷ case
+    (map (λ m. followed m one) (0 ∷ 0x8000000000000000 ∷ []) ++ map (λ m. followed m 0xBFF0000000000000) (0 ∷ 0x8000000000000000 ∷ []))
+    ((0 ∷ 0x8000000000000000 ∷ []) ∷ (0 ∷ 0x8000000000000000 ∷ []) ∷ (0 ∷ 0x8000000000000000 ∷ []) ∷ (0 ∷ 0x8000000000000000 ∷ []) ∷ [])
     -- "Updates counts the matrix subtractions": rows from k+1 to the last row, columns from k+1 to n, ones everywhere
     ∷ row (updatesAt 3 3 1 (onesBut 0 0 one) ∷ updatesAt 2 3 1 (onesBut 0 0 one) ∷ updatesAt 3 2 1 (onesBut 0 0 one) ∷ updatesAt 3 3 3 (onesBut 0 0 one) ∷ []) (4 ∷ 2 ∷ 2 ∷ 0 ∷ [])
     -- 14: a product, a difference; a zero of the pivot row takes none, whatever the place holds
     ∷ row (flags (soundUpdate (float twice) (float most) (float one) ∷ soundUpdate (float 0xBFF0000000000000) (float most) (float most) ∷ soundUpdate (float one) (float most) (float most) ∷ soundUpdate (float one) (float least) (float one) ∷ [])) (0 ∷ 0 ∷ 1 ∷ 1 ∷ [])
     ∷ row (flags (soundPlace (float one) (float 0x8000000000000000) (float infinity) ∷ soundPlace (float one) (float one) (float infinity) ∷ [])) (1 ∷ 0 ∷ [])
-    -- a row: nothing is taken where its entry is zero, or the multiplier is; the quotient, the right side, the columns right of k are looked at
+    -- a row: nothing is taken where its entry is zero, or the multiplier is; the quotient, the right side, beside a zero of the pivot row's too, the columns right of k are looked at
     ∷ row
     (soundSecond ((one ∷ one ∷ []) ∷ (0 ∷ infinity ∷ []) ∷ []) (one ∷ infinity ∷ [])
     ∷ soundSecond ((most ∷ one ∷ []) ∷ (least ∷ infinity ∷ []) ∷ []) (one ∷ infinity ∷ [])
     ∷ soundSecond ((least ∷ 0 ∷ []) ∷ (one ∷ one ∷ []) ∷ []) (one ∷ one ∷ [])
     ∷ soundSecond ((one ∷ one ∷ []) ∷ (one ∷ one ∷ []) ∷ []) (one ∷ infinity ∷ [])
     ∷ soundSecond ((one ∷ one ∷ []) ∷ (one ∷ one ∷ []) ∷ []) (infinity ∷ one ∷ [])
+    ∷ soundSecond ((one ∷ one ∷ []) ∷ (one ∷ one ∷ []) ∷ []) (0 ∷ infinity ∷ [])
+    ∷ soundSecond ((one ∷ one ∷ []) ∷ (one ∷ one ∷ []) ∷ []) (0x8000000000000000 ∷ infinity ∷ [])
     ∷ soundSecond ((one ∷ one ∷ []) ∷ (one ∷ infinity ∷ []) ∷ []) (one ∷ one ∷ [])
     ∷ soundSecond ((one ∷ infinity ∷ []) ∷ (one ∷ one ∷ []) ∷ []) (one ∷ one ∷ [])
     ∷ soundSecond ((one ∷ one ∷ []) ∷ (one ∷ one ∷ []) ∷ []) (one ∷ one ∷ [])
     ∷ [])
-    (1 ∷ 1 ∷ 0 ∷ 0 ∷ 0 ∷ 0 ∷ 0 ∷ 1 ∷ [])
+    (1 ∷ 1 ∷ 0 ∷ 0 ∷ 0 ∷ 0 ∷ 0 ∷ 0 ∷ 0 ∷ 1 ∷ [])
     -- a step: every row from k+1 to the last and every column from k+1 to n, and no other; nor the pivot row itself
     ∷ row (flags (soundStep 3 3 1 walled ones ∷ soundStep 4 3 1 walled ones ∷ soundStep 3 4 1 walled ones ∷ [])) (1 ∷ 0 ∷ 0 ∷ [])
     ∷ row (flags (map (λ i. soundStep 3 3 1 (onesBut i 2 infinity) ones) (1 ∷ 2 ∷ 3 ∷ []))) (0 ∷ 0 ∷ 0 ∷ [])

@@ -3,7 +3,8 @@ use mathlib.Core.List.{List, [], _∷_}
 use Prim.Native.Nat.{ℕ}
 use Rattle.foundation.specs.Reference.{largest, listed, whole, cut}
 use Rattle.foundation.specs.Table.{Case, case}
-use Rattle.foundation.specs.Cases.Reference.{two, three, solve}
+use Rattle.foundation.specs.Cases.Reference.{two, solve}
+use Rattle.foundation.specs.Cases.Show.{three}
 
 unfoldable pub stopCases : List Case
 stopCases =

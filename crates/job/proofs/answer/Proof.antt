@@ -1,6 +1,7 @@
 -- `answer` meets its contract: the bytes are written into a store of zeros.
 use Rattle.job.proofs.Filled.{alone}
 use borrow.Author.Needs.{needs}
+use Rattle.job_sizes.specs.Sizes.{answerRoom}
 use Rattle.job.proofs.answer.Statement.{statement}
 use Rattle.job.proofs.answer.Tie as tie
 
@@ -11,7 +12,7 @@ put-answer-requires : tie.Need-put-answer-requires
 put-answer-requires c κs = search needs
 
 returns : tie.Need-returns
-returns c = alone 8192 _ _ _ (c .before .put-answer .ensures)
+returns c = alone answerRoom _ _ _ (c .before .put-answer .ensures)
 
 pub answer-spec : {M : Type 1} → statement M
 answer-spec = tie.close (tie.spec slice-aggregate-put-answer put-answer-requires returns)

@@ -42,7 +42,7 @@ use denote.Triple.Table.{entered, cited}
 use denote.Triple.Walked.{says, Stays, stay-ref, stay-none, walkOf, AllGo, goes-none, goes-ref, Walks, ends-at, walked, walk-meets}
 use denote.Exit.{yes}
 use Rattle.foundation.specs.Tally.{tallyAnswer, tallyAfter}
-use Rattle.tally.specs.Calls.{answerOf}
+use Rattle.tally.specs.Calls.{tallyAnswerOf}
 use Rattle.tally.specs.declared.Tally.{Tally}
 use Rattle.tally.specs.declared.TallyAnswer.{TallyAnswer}
 use Rattle.tally.specs.declared.Added.{Added}
@@ -71,7 +71,7 @@ stayed = (stay-ref (0 ∷ []) tt (plain (λ _. T.the-row)), (stay-none (λ _. us
 
 -- what `sum_with` ensures, and so what `add` does
 abbrev Right : ℕ → ℕ → Added → Type 0
-Right sum updates r = (r .sum ≡ tallyAfter sum updates) × (answerOf (r .answer) ≡ tallyAnswer sum updates)
+Right sum updates r = (r .sum ≡ tallyAfter sum updates) × (tallyAnswerOf (r .answer) ≡ tallyAnswer sum updates)
 
 module _ {M : Type 1} (𝓤 : URA M) (H : Heap 𝓤) (A : Atoms 𝓤) (mem : Memory → SProp 𝓤) (run : Routine → Fun 𝓤) where
   abbrev SumWith : Contract 𝓤

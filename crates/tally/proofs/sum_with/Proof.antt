@@ -6,7 +6,7 @@ use native.Mathlib.Omega.{arith}
 use lib.Dec.{leb}
 use borrow.Author.Tests.{le-leb, lt-leb}
 use Rattle.foundation.specs.Tally.{tallyAfter, keptSum, tallyAnswer, maxTally}
-use Rattle.tally.specs.Calls.{answerOf}
+use Rattle.tally.specs.Calls.{tallyAnswerOf}
 use borrow.Author.Needs.{needs}
 use Rattle.tally.proofs.sum_with.Statement.{statement}
 use Rattle.tally.proofs.sum_with.Tie as tie
@@ -23,14 +23,14 @@ add-next : tie.Need-add-next
 add-next c = search needs
 
 returns : tie.Need-returns
-unfolding tallyAfter keptSum tallyAnswer maxTally answerOf
+unfolding tallyAfter keptSum tallyAnswer maxTally tallyAnswerOf
 returns c =
     let a = c .before .args in
     let e : leb (a .sum + a .updates) 4294967295 ≡ true = le-leb (a .sum + a .updates) 4294967295 (omega arith) in
     (rw e, rw e)
 
 returns-2 : tie.Need-returns-2
-unfolding tallyAfter keptSum tallyAnswer maxTally answerOf
+unfolding tallyAfter keptSum tallyAnswer maxTally tallyAnswerOf
 returns-2 c =
     let a = c .before .args in
     let e : leb (a .sum + a .updates) 4294967295 ≡ false = lt-leb (a .sum + a .updates) 4294967295 (omega arith) in

@@ -17,7 +17,9 @@ same-length : tie.Need-same-length
 same-length c = search needs
 
 returns : tie.Need-returns
-returns c = job-told _ _ _ _ _ (c .before .before .before .before .before .before .before .answer .ensures .0) (c .before .before .before .before .before .before .before .answer .ensures .1) (search needs) (c .before .before .put-bytes .ensures)
+returns c =
+    let answer = c .before .before .before .before .before .before .before .answer in
+    job-told _ _ _ _ _ (answer .ensures .0) (answer .ensures .1) (search needs) (c .before .before .put-bytes .ensures)
 
 slice-aggregate-put-bytes-2 : tie.Need-slice-aggregate-put-bytes-2
 slice-aggregate-put-bytes-2 c = search needs
@@ -29,7 +31,8 @@ same-length-2 : tie.Need-same-length-2
 same-length-2 c = search needs
 
 returns-2 : tie.Need-returns-2
-returns-2 c = job-too-long _ _ _ _ (c .before .before .before .before .before .before .before .answer .ensures .0) (search needs) (c .before .before .put-bytes2 .ensures)
+returns-2 c =
+    job-too-long _ _ _ _ (c .before .before .before .before .before .before .before .answer .ensures .0) (search needs) (c .before .before .put-bytes2 .ensures)
 
 pub dalumiveth-job-spec : {M : Type 1} → statement M
 dalumiveth-job-spec =

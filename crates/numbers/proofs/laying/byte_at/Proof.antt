@@ -2,7 +2,7 @@
 use mathlib.Core.Path.{sym, _∙_}
 use lib.ListN.{List·getD-eq-default}
 use lib.Seq.{getD-take}
-use Rattle.numbers.proofs.Laid.{take-behind}
+use Rattle.numbers.proofs.CutOrPadded.{take-behind}
 use borrow.Author.Needs.{needs}
 use Rattle.numbers.proofs.laying.byte_at.Statement.{statement}
 use Rattle.numbers.proofs.laying.byte_at.Tie as tie

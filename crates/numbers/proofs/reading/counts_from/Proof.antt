@@ -27,7 +27,19 @@ number-at-requires-7 c κs = search needs
 
 returns : tie.Need-returns
 unfolding countsFrom
-returns c = rw (c .number-at7 .ensures, c .before .number-at6 .ensures, c .before .before .number-at5 .ensures, c .before .before .before .number-at4 .ensures, c .before .before .before .before .number-at3 .ensures, c .before .before .before .before .before .number-at2 .ensures, c .before .before .before .before .before .before .number-at .ensures)
+returns c =
+    let at-number-at4 = c .before .before .before in
+    let at-number-at3 = at-number-at4 .before in
+    let at-number-at2 = at-number-at3 .before in
+    rw (
+      c .number-at7 .ensures,
+      c .before .number-at6 .ensures,
+      c .before .before .number-at5 .ensures,
+      at-number-at4 .number-at4 .ensures,
+      at-number-at3 .number-at3 .ensures,
+      at-number-at2 .number-at2 .ensures,
+      at-number-at2 .before .number-at .ensures,
+    )
 
 pub counts-from-spec : {M : Type 1} → statement M
 counts-from-spec =

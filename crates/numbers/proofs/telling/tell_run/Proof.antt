@@ -29,14 +29,18 @@ same-length c = search needs
 
 returns : tie.Need-returns
 unfolding runAnswerOf outcomeOf refusalNumber runNumbers numbersOf
-returns c = rw (c .before .before .before .before .before .before .outcome .given .1) (refl, c .before .before .put .ensures)
+returns c =
+    let outcome = c .before .before .before .before .before .before .outcome in
+    rw (outcome .given .1) (refl, c .before .before .put .ensures)
 
 same-length-2 : tie.Need-same-length-2
 same-length-2 c = search needs
 
 returns-2 : tie.Need-returns-2
 unfolding runAnswerOf outcomeOf refusalNumber runNumbers numbersOf
-returns-2 c = rw (c .before .before .before .before .before .before .outcome2 .given .1, ← c .before .before .before .before .number-of .ensures) (c .before .before .put-refusal .ensures)
+returns-2 c =
+    let at-number-of = c .before .before .before .before in
+    rw (at-number-of .before .before .outcome2 .given .1, ← at-number-of .number-of .ensures) (c .before .before .put-refusal .ensures)
 
 pub tell-run-spec : {M : Type 1} → statement M
 tell-run-spec =

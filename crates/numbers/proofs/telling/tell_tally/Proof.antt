@@ -1,7 +1,7 @@
 -- `tell_tally` meets its contract, case by case.
 use mathlib.Core.Path.{refl}
 use Rattle.foundation.specs.Tally.{keptSum}
-use Rattle.tally.specs.Calls.{answerOf}
+use Rattle.tally.specs.Calls.{tallyAnswerOf}
 use Rattle.numbers.specs.Numbered.{refusalNumber, refusalStep, tallyNumbers}
 use borrow.Author.Needs.{needs}
 use Rattle.numbers.proofs.telling.tell_tally.Statement.{statement}
@@ -32,15 +32,19 @@ same-length : tie.Need-same-length
 same-length c = search needs
 
 returns : tie.Need-returns
-unfolding answerOf refusalNumber refusalStep tallyNumbers keptSum
-returns c = rw (c .before .before .before .before .before .before .answered .given .1) (refl, c .before .before .put .ensures)
+unfolding tallyAnswerOf refusalNumber refusalStep tallyNumbers keptSum
+returns c =
+    let answered = c .before .before .before .before .before .before .answered in
+    rw (answered .given .1) (refl, c .before .before .put .ensures)
 
 same-length-2 : tie.Need-same-length-2
 same-length-2 c = search needs
 
 returns-2 : tie.Need-returns-2
-unfolding answerOf refusalNumber refusalStep tallyNumbers keptSum
-returns-2 c = rw (c .before .before .before .before .before .enum-told .given .1) (refl, c .before .before .put2 .ensures)
+unfolding tallyAnswerOf refusalNumber refusalStep tallyNumbers keptSum
+returns-2 c =
+    let the-enum-told = c .before .before .before .before .before .enum-told in
+    rw (the-enum-told .given .1) (refl, c .before .before .put2 .ensures)
 
 pub tell-tally-spec : {M : Type 1} → statement M
 tell-tally-spec =

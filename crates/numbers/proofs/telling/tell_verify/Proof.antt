@@ -1,7 +1,7 @@
 -- `tell_verify` meets its contract, case by case.
 use Rattle.answers.specs.Answers.{verifyAnswerOf}
 use Rattle.numbers.specs.Numbered.{refusalNumber, numbersOf, verifyNumbers}
-use Rattle.numbers.proofs.Retold.{retold}
+use Rattle.numbers.proofs.Refused.{refused-alike}
 use borrow.Author.Needs.{needs}
 use Rattle.numbers.proofs.telling.tell_verify.Statement.{statement}
 use Rattle.numbers.proofs.telling.tell_verify.Tie as tie
@@ -15,8 +15,8 @@ put-refusal-requires c κs = search needs
 enum-known-answered : tie.Need-enum-known-answered
 enum-known-answered c = search needs
 
-tell-requires : tie.Need-tell-requires
-tell-requires c κs = search needs
+number-and-step-requires : tie.Need-number-and-step-requires
+number-and-step-requires c κs = search needs
 
 put-refusal-requires-2 : tie.Need-put-refusal-requires-2
 put-refusal-requires-2 c κs = search needs
@@ -33,7 +33,10 @@ same-length-2 c = search needs
 
 returns-2 : tie.Need-returns-2
 unfolding verifyAnswerOf refusalNumber verifyNumbers numbersOf
-returns-2 c = rw (c .before .before .before .before .before .before .answered .given .1, ← retold _ _ (c .before .before .before .before .tell .ensures)) (c .before .before .put-refusal2 .ensures)
+returns-2 c =
+    let at-number-and-step = c .before .before .before .before in
+    rw (at-number-and-step .before .before .answered .given .1, ← refused-alike _ _ (at-number-and-step .number-and-step .ensures))
+    (c .before .before .put-refusal2 .ensures)
 
 pub tell-verify-spec : {M : Type 1} → statement M
 tell-verify-spec =
@@ -42,7 +45,7 @@ tell-verify-spec =
     enum-told
     put-refusal-requires
     enum-known-answered
-    tell-requires
+    number-and-step-requires
     put-refusal-requires-2
     same-length
     returns

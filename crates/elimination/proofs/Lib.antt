@@ -1,2 +1,0 @@
--- A law of the call.
-pub mod Chosen

@@ -1,2 +1,0 @@
--- A law for the casts of the program.
-pub mod Patterns

@@ -1,2 +1,0 @@
--- What a run is given and leaves once planning has answered.
-pub mod Cleared

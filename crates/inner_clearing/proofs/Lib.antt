@@ -1,3 +1,0 @@
--- Laws of loops that clear a store, and of result stores.
-pub mod Filling
-pub mod Stores

@@ -1,3 +1,0 @@
--- What the tests before a run say, and the numbers that they go by.
-pub mod Gate
-pub mod Sizes

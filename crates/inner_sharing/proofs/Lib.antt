@@ -1,4 +1,0 @@
--- Laws that the proofs of the functions share.
-pub mod Sharing
-pub mod Comparing
-pub mod Adding

@@ -1,6 +1,0 @@
--- What the inner crates of the elimination share: how its stores show a square, and how its index stores are the plan's.
-pub mod Flags
-pub mod Index
-pub mod Shows
-pub mod Places
-pub mod Handing

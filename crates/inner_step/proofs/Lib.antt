@@ -1,6 +1,0 @@
--- Laws that the proofs of the functions share.
-pub mod Filled
-pub mod Placing
-pub mod Lists
-pub mod Stepping
-pub mod Short

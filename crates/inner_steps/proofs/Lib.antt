@@ -1,4 +1,0 @@
--- Laws of one step.
-pub mod Elimination
-pub mod Brought
-pub mod Standing

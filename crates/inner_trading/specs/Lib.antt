@@ -1,3 +1,0 @@
--- What the contracts of trading slots cite.
-pub mod Places
-pub mod Trading

@@ -1,5 +1,0 @@
-// All steps of a lent plan compared with a pattern's plan.
-mod steps;
-
-pub use steps::VerifiedEnd;
-pub use steps::verify_steps;

@@ -1,0 +1,2 @@
+-- The sizes that contracts cite besides the foundation's.
+pub mod Sizes

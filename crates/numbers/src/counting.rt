@@ -1,0 +1,20 @@
+// The seven counts of a plan as numbers.
+ghost use mathlib.Core.Path.{_≡_};
+ghost use Rattle.foundation.specs.PlanCall.{countNumbers};
+ghost use Rattle.answers.specs.Answers.{countsIn};
+use answers::PlanCounts;
+
+// n, entries, L and U subscripts, L and U slots, reads: the order of the line `plan`, and of every store that tells or gives counts.
+pub fn count_numbers(c: PlanCounts) -> [usize; 7]
+    ensures { λ r. ⌜ r ≡ countNumbers (countsIn c) ⌝ }
+{
+    [
+        c.n,
+        c.entries,
+        c.l_subscripts,
+        c.u_subscripts,
+        c.l_slots,
+        c.u_slots,
+        c.reads,
+    ]
+}

@@ -1,0 +1,315 @@
+-- The rows by their least column, and what walking the chains of a plan takes for granted.
+use mathlib.Core.Bool.{Bool, true, not}
+use mathlib.Core.List.{List, [], _∷_}
+use mathlib.Core.Path.{_≡_, sym, ap, _∙_}
+use Prim.Native.Nat.{ℕ, suc, _+_, _-_, _*_, _≤_, _<_}
+use native.Mathlib.Nat.{mul-le-mul-left}
+use native.Mathlib.Numerals.{add-one}
+use native.Mathlib.Omega.{arith}
+use lib.Dec.{eqb}
+use lib.ListN.{length, set, getD, replicate}
+use lib.Seq.{slice, slice-cons, length-slice}
+use borrow.Author.Tests.{eqb-true, eqb-false, eq-eqb, ne-eqb, lt-ltb}
+use Rattle.lists.specs.Functions.{update, keep, total, span}
+use Rattle.lists.specs.Sets.{member, Ascending, run, upto, between, first, leastAbove, Falling}
+use Rattle.lists.proofs.Members.{by-test, not-member-nil, in-upto, upto-low, upto-high, kept-in, kept-passes, in-keep, in-between, between-low, between-high}
+use Rattle.lists.proofs.Order.{member-first, same-members-by, ascending-keep, ascending-between}
+use Rattle.lists.proofs.Kept.{leave-first}
+use Rattle.lists.proofs.Least.{least-member, least-above}
+use Rattle.lists.proofs.Once.{falling-once, ascending-once}
+use Rattle.lists.proofs.Places.{index-below, length-upto}
+use Rattle.lists.proofs.Counting.{total-cong, total-le, total-constant, total-within}
+use Rattle.foundation.specs.Pattern.{Lent, lent, rowOf, patternOf, startsFit, maxEntries}
+use Rattle.foundation.specs.Plan.{Planning, Side, lower, upper, list, plan}
+use Rattle.foundation.specs.Subscripts.{kept}
+use Rattle.foundation.specs.Slots.{slotsOf}
+use Rattle.foundation.specs.Facts.{sizesOf}
+use Rattle.foundation.proofs.PlanFacts.{plan-facts}
+use Rattle.foundation.proofs.Steps.{S-falls}
+use Rattle.foundation.proofs.Starts.{slots-next}
+use Rattle.foundation.proofs.Passing.{rows-before}
+use Rattle.foundation.proofs.ReadsBound.{first-ascends, sizes-within}
+use Rattle.store_lists.specs.Chains.{Linked, Chained, bothSpans, RowsWalk, StepsWalk}
+use Rattle.store_lists.proofs.Chaining.{chained-none, chained-cong, chained-push}
+use Rattle.plan_gather.specs.Ready.{Ready, planOf}
+use Rattle.plan_pattern.proofs.Judging.{Fitted, fitted, row-order, row-within}
+
+-- ---- the rows of a pattern that was judged
+
+-- the first of a list is its least member above 0
+first-least : (x : ℕ) (xs : List ℕ) → 0 < x → leastAbove 0 (x ∷ xs) ≡ x
+unfolding leastAbove keep first
+first-least x xs h = rw (lt-ltb 0 x h)
+
+-- the numbers a to b begin with a
+between-cons : (a b : ℕ) → a ≤ b → between a b ≡ a ∷ between (suc a) b
+unfolding between run
+between-cons a b h = let e : suc b - a ≡ suc (suc b - suc a) = omega arith in rw e
+
+-- the rows behind row i whose least column is k
+unfoldable pub rowsFrom : Lent → ℕ → ℕ → List ℕ
+rowsFrom p i k = keep (λ r. eqb (leastAbove 0 (rowOf p r)) k) (between (suc i) (p .n))
+
+-- row i + 1, by its starts
+row-at : (p : Lent) (i : ℕ) → rowOf p (i + 1) ≡ slice (getD (p .starts) i 0) (getD (p .starts) (i + 1) 0) (p .columns)
+unfolding rowOf
+row-at p i = rw add-one
+
+-- what `chain_rows` reads of row i lies inside
+pub record RowPlace (n : ℕ) (starts columns : List ℕ) (i : ℕ) : Type 0 where
+  pub in-starts : i < length starts
+  pub in-columns : getD starts (i - 1) 0 < length columns
+  pub column-high : getD columns (getD starts (i - 1) 0) 0 ≤ n
+
+-- an ascending list from l on that has l is one longer than without it
+left-out : (l : ℕ) (xs : List ℕ) → Ascending l xs → member l xs ≡ true → length (keep (λ x. not (eqb x l)) xs) + 1 ≡ length xs
+unfolding Ascending
+left-out l [] a m = absurd (not-member-nil l m)
+left-out l (x ∷ xs) a m =
+    let q : x ≡ l = let h = member-first l l x xs a m in omega arith in
+    rw (q, leave-first l xs (rw q at a)) (add-one (length xs))
+
+-- A store has the starts of the slots of the steps before k.
+pub record SlotsTo (s : Planning) (side : Side) (k : ℕ) (slots : List ℕ) : Type 0 where
+  pub room : k ≤ length slots
+  pub at : (l : ℕ) → l < k → getD slots l 0 ≡ slotsOf s side l
+
+module _ (s : Planning) (side : Side) (k : ℕ) (slots : List ℕ) (h : SlotsTo s side k slots) where
+  slot-next : (l : ℕ) → 1 ≤ l → l < k → getD slots l 0 ≡ getD slots (l - 1) 0 + length (kept s side l)
+  slot-next l low high =
+      let e : suc (l - 1) ≡ l = omega arith in
+      let q : slotsOf s side l ≡ slotsOf s side (l - 1) + length (kept s side l) = rw e at (slots-next s side (l - 1)) in
+      omega (arith, h .at l high, h .at (l - 1) (omega arith))
+
+  -- an earlier step's slots are as many as its kept list has members
+  pub slot-span : (l : ℕ) → 1 ≤ l → l < k → span slots l ≡ length (kept s side l)
+  slot-span l low high = omega (arith, slot-next l low high)
+
+  -- which do not end before they start
+  pub slot-rises : (l : ℕ) → 1 ≤ l → l < k → getD slots (l - 1) 0 ≤ getD slots l 0
+  slot-rises l low high = omega (arith, slot-next l low high)
+
+module _ (p : Lent) (ready : Ready p) where
+  fits : Fitted (p .n) (p .starts) (p .columns)
+  unfolding lent startsFit
+  fits = fitted (p .n) (p .starts) (p .columns) (ready .starts-fit)
+
+  -- there is a start for each row, and one behind
+  pub starts-size : length (p .starts) ≡ suc (p .n)
+  starts-size = fits .count
+
+  module _ (i : ℕ) (low : 1 ≤ i) (high : i ≤ p .n) where
+    own : member i (rowOf p i) ≡ true
+    unfolding patternOf
+    own = ready .plannable .diagonal i low high
+
+    back : i - 1 + 1 ≡ i
+    back = omega arith
+
+    -- a row does not end before it starts
+    pub row-rises : getD (p .starts) (i - 1) 0 ≤ getD (p .starts) i 0
+    row-rises = rw back at (row-order (p .n) (p .starts) (p .columns) fits (i - 1) (omega arith))
+
+    -- and it ends inside the columns
+    pub row-ends : getD (p .starts) i 0 ≤ length (p .columns)
+    row-ends = rw back at (row-within (p .n) (p .starts) (p .columns) fits (i - 1) (omega arith))
+
+    -- a row lies from its start to the next one's
+    pub row-is : rowOf p i ≡ slice (getD (p .starts) (i - 1) 0) (getD (p .starts) i 0) (p .columns)
+    row-is = rw back at (row-at p (i - 1))
+
+    -- a row has as many entries as its starts say
+    pub row-size : span (p .starts) i ≡ length (rowOf p i)
+    row-size = sym (ap length row-is ∙ length-slice (getD (p .starts) (i - 1) 0) (getD (p .starts) i 0) (p .columns) row-ends)
+
+    -- a row has an entry
+    pub row-some : getD (p .starts) (i - 1) 0 < getD (p .starts) i 0
+    row-some = let l = index-below i (rowOf p i) own in let e = row-size in omega arith
+
+    -- its first column is its least
+    pub row-first : getD (p .columns) (getD (p .starts) (i - 1) 0) 0 ≡ leastAbove 0 (rowOf p i)
+    unfolding patternOf Ascending
+    row-first =
+        let e = row-is ∙ slice-cons (getD (p .starts) (i - 1) 0) (getD (p .starts) i 0) (p .columns) 0 row-some row-ends in
+        let a = rw e at (ready .plannable .ascending i low high) in
+        rw e (sym (first-least _ _ (a .0)))
+
+    -- and is from 1 to n
+    pub least-low : 1 ≤ leastAbove 0 (rowOf p i)
+    least-low = least-above i 0 (rowOf p i) own low
+
+    pub least-high : leastAbove 0 (rowOf p i) ≤ p .n
+    unfolding patternOf
+    least-high = ready .plannable .bounded i (leastAbove 0 (rowOf p i)) low high (least-member i 0 (rowOf p i) own low)
+
+    -- what is read of it lies inside
+    pub row-place : RowPlace (p .n) (p .starts) (p .columns) i
+    row-place = record {
+      in-starts = let e = starts-size in omega arith;
+      in-columns = let a = row-some in let b = row-ends in omega arith;
+      column-high = rw row-first least-high;
+    }
+
+  -- a row first met at a step is one of the pattern, and the step is its least column
+  pub first-in : (k i : ℕ) → 1 ≤ k → k ≤ p .n → member i (planOf p .firstMet k) ≡ true → (1 ≤ i) × (i ≤ p .n) × (leastAbove 0 (rowOf p i) ≡ k)
+  unfolding planOf patternOf
+  first-in k i low high m = plan-facts (patternOf p) (ready .plannable) .first-met k i low high .0 m
+
+  -- the rows first met at a step ascend
+  pub first-rows-ascend : (k : ℕ) → 1 ≤ k → k ≤ p .n → Ascending 1 (planOf p .firstMet k)
+  unfolding planOf plan patternOf
+  first-rows-ascend k low high = first-ascends (patternOf p) (p .n) k low high
+
+  -- all rows whose least column is k are the rows first met at step k
+  all-rows : (k : ℕ) → 1 ≤ k → k ≤ p .n → rowsFrom p 0 k ≡ planOf p .firstMet k
+  unfolding rowsFrom planOf patternOf
+  all-rows k low high =
+      let t : ℕ → Bool = λ r. eqb (leastAbove 0 (rowOf p r)) k in
+      same-members-by 1 1 (keep t (between 1 (p .n))) (planOf p .firstMet k)
+      (ascending-keep 1 t (between 1 (p .n)) (ascending-between 1 (p .n)))
+      (first-rows-ascend k low high)
+      (λ i m.
+      let inside = kept-in i t (between 1 (p .n)) m in
+      plan-facts (patternOf p) (ready .plannable) .first-met k i low high .1
+      (between-low i 1 (p .n) inside, between-high i 1 (p .n) inside, eqb-true (leastAbove 0 (rowOf p i)) k (kept-passes i t (between 1 (p .n)) m)))
+      (λ i m.
+      let r = first-in k i low high m in
+      in-keep i t (between 1 (p .n)) (in-between i 1 (p .n) (r .0) (r .1)) (eq-eqb (leastAbove 0 (rowOf p i)) k (r .2)))
+
+  -- no row is chained yet
+  pub rows-start : (heads links : List ℕ) → heads ≡ replicate (suc (p .n)) 0 → links ≡ replicate (suc (p .n)) 0 → Chained heads links (p .n) (rowsFrom p (p .n))
+  unfolding rowsFrom between run keep
+  rows-start heads links e f =
+      rw (e, f)
+      (chained-cong _ _ (p .n) (λ k. []) (rowsFrom p (p .n))
+      (λ k low high. let none : suc (p .n) - suc (p .n) ≡ 0 = omega arith in rw none)
+      (chained-none (p .n)))
+
+  -- row i joins the chain of its first column
+  pub rows-turn : (heads links heads′ links′ : List ℕ) (i column : ℕ) → 0 < i → i ≤ p .n → column ≡ getD (p .columns) (getD (p .starts) (i - 1) 0) 0
+      → heads′ ≡ set heads column i → links′ ≡ set links i (getD heads column 0)
+      → Chained heads links (p .n) (rowsFrom p i) → Chained heads′ links′ (p .n) (rowsFrom p (i - 1))
+  unfolding rowsFrom keep update
+  rows-turn heads links heads′ links′ i column low high here e f h =
+      let c : column ≡ leastAbove 0 (rowOf p i) = here ∙ row-first i low high in
+      let t : ℕ → ℕ → Bool = λ k r. eqb (leastAbove 0 (rowOf p r)) k in
+      let more : between (suc (i - 1)) (p .n) ≡ i ∷ between (suc i) (p .n) = let b : suc (i - 1) ≡ i = omega arith in rw b (between-cons i (p .n) high) in
+      rw (e, f)
+      (chained-cong _ _ (p .n) (update (rowsFrom p i) column (i ∷ rowsFrom p i column)) (rowsFrom p (i - 1))
+      (λ k l u. rw more (by-test (eqb k column)
+      (λ q. let w : column ≡ k = sym (eqb-true k column q) in rw (q, eq-eqb (leastAbove 0 (rowOf p i)) k (sym c ∙ w), w))
+      (λ q. rw (q, ne-eqb (leastAbove 0 (rowOf p i)) k (λ w. eqb-false k column q (sym (c ∙ w)))))))
+      (chained-push heads links (p .n) (rowsFrom p i) column i
+      (rw c (least-low i low high)) (rw c (least-high i low high)) low high
+      (λ j l u m. let b = between-low i (suc i) (p .n) (kept-in i (t j) (between (suc i) (p .n)) m) in omega arith)
+      h))
+
+  -- every row is chained
+  pub rows-end : (heads links : List ℕ) (i : ℕ) → i ≡ 0 → Chained heads links (p .n) (rowsFrom p i) → Chained heads links (p .n) (planOf p .firstMet)
+  rows-end heads links i e h = chained-cong heads links (p .n) (rowsFrom p 0) (planOf p .firstMet) all-rows (rw e at h)
+
+  -- ---- what walking the chains of a plan takes for granted
+
+  -- the spans of the rows first met at a step are their sizes
+  pub rows-total : (k : ℕ) → 1 ≤ k → k ≤ p .n → total (span (p .starts)) (planOf p .firstMet k) ≡ total (λ i. length (rowOf p i)) (planOf p .firstMet k)
+  rows-total k low high =
+      total-cong (span (p .starts)) (λ i. length (rowOf p i)) (planOf p .firstMet k)
+      (λ i m. let r = first-in k i low high m in row-size i (r .0) (r .1))
+
+  -- all rows have few entries together
+  few-entries : total (λ i. length (rowOf p i)) (upto (p .n)) ≤ 16384
+  unfolding maxEntries
+  few-entries = omega (arith, rows-before p (ready .starts-fit) (p .n) (omega arith), fits .last, ready .entries)
+
+  -- and there is no more than one row for an entry
+  pub few-rows : p .n ≤ 16384
+  few-rows =
+      let some = total-le (λ i. 1) (λ i. length (rowOf p i)) (upto (p .n))
+      (λ i m.
+      let low = upto-low i (p .n) m in
+      let high = upto-high i (p .n) m in
+      omega (arith, row-size i low high, row-some i low high)) in
+      omega (arith, few-entries, total-constant 1 (upto (p .n)), length-upto (p .n))
+
+  -- the rows first met at a step may be walked
+  pub rows-walk : (k : ℕ) → 1 ≤ k → k ≤ p .n → (links : List ℕ) (head : ℕ) → Linked links head (planOf p .firstMet k) → RowsWalk links head (p .starts) (planOf p .firstMet k)
+  rows-walk k low high links head h =
+      let rows = planOf p .firstMet k in
+      record {
+        linked = h;
+        ascending = first-rows-ascend k low high;
+        inside = λ i m. let r = first-in k i low high m in (let e = starts-size in omega arith, row-rises i (r .0) (r .1));
+        small =
+            omega (
+              arith,
+              few-entries,
+              rows-total k low high,
+              total-within (λ i. length (rowOf p i)) rows (upto (p .n)) (ascending-once 1 rows (first-rows-ascend k low high))
+                  (λ i m. let r = first-in k i low high m in in-upto i (p .n) (r .0) (r .1)),
+            );
+      }
+
+  -- a step in S_k is an earlier one
+  pub step-in : (k l : ℕ) → 1 ≤ k → member l (planOf p .S k) ≡ true → (1 ≤ l) × (l < k)
+  unfolding planOf
+  step-in k l low m = let r = plan-facts (patternOf p) (ready .plannable) .joins-one l k low m in (r .0, r .1)
+
+  -- the sets S fall
+  pub steps-fall : (k : ℕ) → Falling (suc (p .n)) (planOf p .S k)
+  unfolding planOf plan patternOf
+  steps-fall k = S-falls (patternOf p) (p .n) k
+
+  -- a list of a step has one member more than is kept
+  pub kept-size : (side : Side) (l : ℕ) → 1 ≤ l → l ≤ p .n → length (kept (planOf p) side l) + 1 ≡ length (list (planOf p) side l)
+  unfolding planOf patternOf kept
+  kept-size side l low high =
+      let facts = plan-facts (patternOf p) (ready .plannable) in
+      left-out l (list (planOf p) side l) (facts .ascending side l) (facts .own side l low high)
+
+  -- the two lists of all steps together have few members
+  few-members : total (λ l. length (planOf p .L l) + length (planOf p .U l)) (upto (p .n)) ≤ 536870912
+  unfolding planOf plan patternOf sizesOf
+  few-members =
+      let n = p .n in
+      let a : n * (n + n) ≤ n * 32768 = mul-le-mul-left n (omega (arith, few-rows)) in
+      omega (arith, a, few-rows, sizes-within (patternOf p) (ready .plannable))
+
+  module _ (k : ℕ) (low : 1 ≤ k) (high : k ≤ p .n) (lowers uppers : List ℕ) (ls : SlotsTo (planOf p) lower k lowers) (us : SlotsTo (planOf p) upper k uppers) where
+    -- the spans of an earlier step are the sizes of its lists
+    step-size : (l : ℕ) → member l (planOf p .S k) ≡ true → bothSpans lowers uppers l ≡ length (planOf p .L l) + length (planOf p .U l)
+    unfolding list
+    step-size l m =
+        let r = step-in k l low m in
+        omega (
+          arith,
+          slot-span (planOf p) lower k lowers ls l (r .0) (r .1),
+          slot-span (planOf p) upper k uppers us l (r .0) (r .1),
+          kept-size lower l (r .0) (omega arith),
+          kept-size upper l (r .0) (omega arith),
+        )
+
+    -- and so are their sums
+    pub steps-total : total (bothSpans lowers uppers) (planOf p .S k) ≡ total (λ l. length (planOf p .L l) + length (planOf p .U l)) (planOf p .S k)
+    steps-total = total-cong (bothSpans lowers uppers) (λ l. length (planOf p .L l) + length (planOf p .U l)) (planOf p .S k) step-size
+
+    -- the steps of S_k may be walked
+    pub steps-walk : (links : List ℕ) (head : ℕ) → length links ≡ suc (p .n) → Linked links head (planOf p .S k) → StepsWalk links head lowers uppers (planOf p .S k)
+    steps-walk links head e h =
+        let steps = planOf p .S k in
+        record {
+          linked = h;
+          falling = rw e (steps-fall k);
+          inside = λ l m. let r = step-in k l low m in (omega arith, omega arith);
+          rising = λ l m. let r = step-in k l low m in (
+            slot-rises (planOf p) lower k lowers ls l (r .0) (r .1),
+            slot-rises (planOf p) upper k uppers us l (r .0) (r .1),
+          );
+          small =
+              omega (
+                arith,
+                few-members,
+                steps-total,
+                total-within (λ l. length (planOf p .L l) + length (planOf p .U l)) steps (upto (p .n)) (falling-once (suc (p .n)) steps (steps-fall k))
+                    (λ l m. let r = step-in k l low m in in-upto l (p .n) (r .0) (omega arith)),
+              );
+        }

@@ -1,0 +1,4 @@
+-- What the contracts cite.
+pub mod Sharing
+pub mod Adding
+pub mod Sole

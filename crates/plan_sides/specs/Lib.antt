@@ -1,0 +1,4 @@
+-- What the contracts cite.
+pub mod Filled
+pub mod Placing
+pub mod Stepping

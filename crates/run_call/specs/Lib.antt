@@ -1,0 +1,2 @@
+-- What a run is given and leaves once planning has answered.
+pub mod Calling

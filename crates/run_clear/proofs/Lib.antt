@@ -1,0 +1,2 @@
+-- Laws of result stores.
+pub mod Stores

@@ -1,0 +1,75 @@
+// The exchange of rows in the slots: `exchange` brings a step's pivot row to row k.
+ghost use Rattle.answers.specs.Stores.{planStores};
+ghost use Rattle.run_slots.specs.Shows.{squareStores};
+ghost use Rattle.run_exchange.specs.Exchange.{ExchangeAsks, ExchangeLeaves};
+use answers::SlotPlace;
+use answers::SubscriptPlace;
+use run_swap::offset_from;
+use run_swap::swap;
+use run_swap::swap_before;
+use run_swap::swap_beyond;
+use run_swap::swap_within;
+use store_place::list_place;
+
+// Rows k and p change places in columns k to n and in the right side; p is the member of L_k at `place`. Only k and the columns of U_k are
+// touched: in all others both rows hold +0. Row k lies on the diagonal and in U_k; row p lies in L before its diagonal and in U_p beyond it.
+pub fn exchange(
+    k: usize,
+    place: usize,
+    l_subs: &[usize],
+    l_starts: &[usize],
+    l_slots: &[usize],
+    u_subs: &[usize],
+    u_starts: &[usize],
+    u_slots: &[usize],
+    l: &mut [f64],
+    u: &mut [f64],
+    d: &mut [f64],
+    x: &mut [f64],
+)
+    requires { ⌜ ExchangeAsks k place (planStores (now «l_subs») (now «l_starts») (now «l_slots») (now «u_subs») (now «u_starts») (now «u_slots»))
+        (squareStores (now l) (now u) (now d) (now x)) ⌝ }
+    ensures { λ r. ⌜ ((w : ExchangeAsks k place
+        (planStores (now («l_subs» .entry)) (now («l_starts» .entry)) (now («l_slots» .entry)) (now («u_subs» .entry)) (now («u_starts» .entry)) (now («u_slots» .entry)))
+        (squareStores (now (l .entry)) (now (u .entry)) (now (d .entry)) (now (x .entry))))
+        → ExchangeLeaves k place _ _ (squareStores (now (l .exit)) (now (u .exit)) (now (d .exit)) (now (x .exit))) w) ⌝ }
+{
+    let column = list_place(l_starts, l_slots, k);
+    let cell = column.from.0 + place;
+    let p = l_subs[cell];
+    let at = column.slot.0 + place;
+    swap(d, k - 1, l, SlotPlace(at));
+    let row = list_place(u_starts, u_slots, k);
+    let from = row.from.0;
+    let to = row.to.0;
+    let first = row.slot.0;
+    let us = &u_subs[from..to];
+    let t = swap_before(
+        us,
+        row.slot,
+        p,
+        SubscriptPlace(cell),
+        l_subs,
+        l_starts,
+        l_slots,
+        l,
+        u,
+    );
+    let own = first + t;
+    swap(d, p - 1, u, SlotPlace(own));
+    let other = list_place(u_starts, u_slots, p);
+    let start = other.from.0;
+    let end = other.to.0;
+    let next = from + t + 1;
+    let guess = offset_from(SubscriptPlace(next), other.from);
+    swap_beyond(
+        us,
+        row.slot,
+        t + 1,
+        &u_subs[start..end],
+        other.slot,
+        guess,
+        u,
+    );
+    swap_within(x, k - 1, p - 1);
+}

@@ -1,0 +1,37 @@
+-- The pivot row brought to row k, whether it stands there already or not.
+use mathlib.Core.Bool.{false}
+use mathlib.Core.Logic.{_⊎_}
+use mathlib.Core.Path.{_≡_}
+use Prim.Native.Nat.{ℕ, _≤_, _<_}
+use lib.Ieee.{Float}
+use lib.ListN.{length, getD}
+use Rattle.foundation.specs.Numbers.{plusZero}
+use Rattle.foundation.specs.Pattern.{Pattern}
+use Rattle.foundation.specs.Plan.{Planning, lower}
+use Rattle.foundation.specs.PlanCall.{PlanStores}
+use Rattle.foundation.specs.Reference.{exchangedRight}
+use Rattle.foundation.specs.Slots.{hasSlot}
+use Rattle.foundation.specs.Square.{Square, exchanged}
+use Rattle.foundation.specs.Subscripts.{kept}
+use Rattle.run_slots.specs.Index.{Layout}
+use Rattle.run_slots.specs.Shows.{SquareStores, ShowsAll}
+
+-- The stores show a square and a right side; the pivot row is k, or stands at a place of L_k; before the exchange and after it nothing but +0
+-- stands outside the slots.
+pub record BringAsks (k row place : ℕ) (q : PlanStores) (z : SquareStores) : Type 0 where
+  pub p : Pattern
+  pub s : Planning
+  pub n : ℕ
+  pub square : Square Float
+  pub right : ℕ → Float
+  pub layout : Layout p s n q
+  pub low : 1 ≤ k
+  pub found-at : (row ≡ k) ⊎ ((place < length (kept s lower k)) × (row ≡ getD (kept s lower k) place 0))
+  pub shows : ShowsAll s n square right z
+  pub outside : (i j : ℕ) → hasSlot s i j ≡ false → square i j ≡ plusZero
+  pub stays : (i j : ℕ) → hasSlot s i j ≡ false → exchanged k row square i j ≡ plusZero
+
+-- Document 01, "Elimination": "Rows k and p are exchanged in columns k to n and in the right side; earlier multipliers are not moved."
+abbrev pub BringLeaves : (k row place : ℕ) (q : PlanStores) (z z′ : SquareStores) → BringAsks k row place q z → Type 0
+BringLeaves k row place q z z′ w =
+    ShowsAll (w .s) (w .n) (exchanged k row (w .square)) (exchangedRight k row (w .right)) z′

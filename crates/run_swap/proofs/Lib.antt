@@ -1,0 +1,5 @@
+-- Laws of swapping slots.
+pub mod Guessing
+pub mod Puts
+pub mod Columns
+pub mod Walks

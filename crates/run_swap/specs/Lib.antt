@@ -1,0 +1,2 @@
+-- What the contracts of swapping slots cite.
+pub mod Swapping

@@ -1,0 +1,2 @@
+-- Laws of loops that fill a store with one value.
+pub mod Filling

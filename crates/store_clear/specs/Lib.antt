@@ -1,0 +1,2 @@
+-- Stores that are cleared.
+pub mod Clearing

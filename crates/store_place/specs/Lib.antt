@@ -1,0 +1,2 @@
+-- Where the lists of a side lie.
+pub mod Places

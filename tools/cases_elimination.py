@@ -1,0 +1,403 @@
+#!/usr/bin/env python3
+"""Writes the requests and the expected lines of the program crates/cases_elimination.
+
+  tools/cases_elimination.py DENSE_FOLDER
+
+DENSE_FOLDER holds the dense program of different authorship that document 01 asks for
+("other cases are executed and compared"): dense.py, and calls.py, which knows whole calls.
+Every expected answer and every place of every store comes from it. The files stdin and
+stdout of the crate are written anew; the seeds are fixed, so that they come out the same.
+
+A request: HEAD words of four bytes, then the lists of LISTS, numbers in two bytes, values
+and right side as the eight bytes of an f64; all low byte first.
+"""
+import math
+import os
+import random
+import struct
+import sys
+
+from cases_planning import joined, joining, shared_with_earlier, strip_with_steps_between, together
+
+HEAD = ["most", "n", "starts", "columns",
+        "count_n", "count_entries", "count_l_subs", "count_u_subs", "count_l_slots", "count_u_slots", "count_reads",
+        "l_subs", "l_starts", "l_slots", "u_subs", "u_starts", "u_slots", "rows", "values", "right",
+        "by_list", "cut", "steps",
+        "lower", "upper", "diagonal", "solution", "pivots",
+        "row_heads", "row_links", "set_heads", "set_links", "list", "spare", "copy", "dense"]
+PLAN_STORES = ["l_subs", "l_starts", "l_slots", "u_subs", "u_starts", "u_slots"]
+RESULTS = [("lower", "l_slots"), ("upper", "u_slots"), ("diagonal", "diagonal"), ("solution", "solution"), ("pivots", "pivots")]
+WORK_NEXT = ["row_heads", "row_links", "set_heads", "set_links", "dense"]   # n+1 places
+WORK_N = ["list", "spare", "copy"]                                          # n places
+SHOWN = 48              # stores that are longer are shown by a sum over their places
+PRIME = 4294967291
+
+
+def bits(x):
+    return struct.unpack("<Q", struct.pack("<d", x))[0]
+
+
+def store_line(name, numbers):
+    """A store's line: its places, or their count and a sum over them."""
+    if len(numbers) <= SHOWN:
+        return " ".join([name] + [f"{v:x}" for v in numbers])
+    total = 0
+    for v in numbers:
+        total = (total * 65599 + v // 4294967296) % PRIME
+        total = (total * 65599 + v % 4294967296) % PRIME
+    return f"{name} {len(numbers):x} places {total:x}"
+
+
+def refusal(answer):
+    return f"refused {answer[1]} {answer[2]}"
+
+
+class Cases:
+    def __init__(self, calls, dense):
+        self.calls, self.dense = calls, dense
+        self.bytes, self.lines, self.count = bytearray(), [], 0
+        self.answers, self.steps = {}, {13: set(), 14: set()}
+        self.finished = {(a, b): 0 for a in ("largest", "listed") for b in ("whole", "cut")}
+
+    def request(self, most, n, starts, columns, counts, stores, values, right, listed, cut, lengths, work):
+        head = {"most": most, "n": n, "by_list": int(listed is not None), "cut": int(cut is not None), "steps": cut or 0}
+        head.update({"starts": len(starts), "columns": len(columns), "rows": len(listed or []), "values": len(values), "right": len(right)})
+        head.update({name: len(stores[name]) for name in PLAN_STORES})
+        head.update({key: value for key, value in zip(HEAD[4:11], counts)})
+        head.update({name: lengths[key] for name, key in RESULTS})
+        head.update(work)
+        self.bytes += struct.pack(f"<{len(HEAD)}I", *[head[name] for name in HEAD])
+        for numbers in [starts, columns] + [stores[name] for name in PLAN_STORES] + [listed or []]:
+            self.bytes += struct.pack(f"<{len(numbers)}H", *numbers)
+        self.bytes += struct.pack(f"<{len(values)}d", *values) + struct.pack(f"<{len(right)}d", *right)
+        fixed = [(work[name], n + 1) for name in WORK_NEXT] + [(work[name], n) for name in WORK_N]
+        planning = [pair for name, pair in zip(WORK_NEXT + WORK_N, fixed) if name not in ("copy", "dense")]
+        held = self.calls.hold_call(most, n, starts, columns, counts, stores, planning)
+        self.lines.append("verify agrees" if held[0] == "granted" else "verify " + refusal(held))
+        called = self.calls.run_call(most, n, starts, columns, counts, stores, fixed, values, right, listed, cut, lengths)
+        if called.answer[0] == "granted":
+            self.lines.append(f"run finished {called.answer[1]}")
+            self.finished["largest" if listed is None else "listed", "whole" if cut is None else "cut"] += 1
+        else:
+            self.lines.append("run " + refusal(called.answer))
+            number = called.answer[1]
+            self.answers[number] = self.answers.get(number, 0) + 1
+            if number in self.steps:
+                self.steps[number].add(called.answer[2])
+        for name, key in RESULTS:
+            self.lines.append(store_line(name, called.stores[key] if key == "pivots" else [bits(v) for v in called.stores[key]]))
+        self.lines.append("work zero")
+        self.count += 1
+        return called.answer
+
+    def run(self, rows, values, right, listed=None, cut=None, most=1024, more=None, bend=None, lent=None):
+        """A run on the pattern's own plan. `more` gives lengths by name, `bend` changes the lent plan (counts, stores), `lent` the pattern (n, starts, columns)."""
+        n = len(rows)
+        starts, columns = [0], []
+        for row in rows:
+            columns += row
+            starts.append(len(columns))
+        plan = self.dense.make_plan(n, {i: r for i, r in enumerate(rows, 1)})
+        counts, stores = list(self.calls.counts_of(plan)), self.calls.stores_of(plan)
+        lengths = {"l_slots": plan.l_side.slots(), "u_slots": plan.u_side.slots(), "diagonal": n, "solution": n, "pivots": n}
+        work = {name: n + 1 for name in WORK_NEXT}
+        work.update({name: n for name in WORK_N})
+        for name, length in (more or {}).items():
+            key = dict(RESULTS).get(name)
+            if key:
+                lengths[key] += length
+            else:
+                work[name] += length
+        if bend:
+            bend(counts, stores)
+        if lent:
+            n, starts, columns = lent(n, starts, columns)
+        return self.request(most, n, starts, columns, counts, stores, values, right, listed, cut, lengths, work)
+
+
+# ------------------------------------------------------------------ patterns and values
+
+FIELDS = [[1, 3], [2, 4], [1, 3], [2, 3, 4]]
+FIELD_VALUES = [2.0, 1.0, 1.0, 1.0, 4.0, 4.0, 2.0, 1.0, 4.0]
+FIELD_RIGHT = [3.0, 2.0, 8.0, 7.0]
+SPECIAL = [0.0, -0.0, 5e-324, -5e-324, 2.2250738585072014e-308, 1e-310, 1e-200, 1e200, 1e300, -1e300, 1.7e308, 1.0, -1.0, 2.0, -2.0, 0.5, 3.0]
+
+
+def shape(n, has):
+    return [[j for j in range(1, n + 1) if j == i or has(i, j)] for i in range(1, n + 1)]
+
+
+def random_rows(rng, n, density):
+    return shape(n, lambda i, j: rng.random() < density)
+
+
+def entries(rows):
+    return sum(map(len, rows))
+
+
+def numbers(rng, count, kind):
+    if kind == "plain":
+        return [rng.uniform(-4, 4) for _ in range(count)]
+    if kind == "small":      # ties, exact cancellation
+        return [float(rng.choice([-2, -1, -1, 1, 1, 2])) for _ in range(count)]
+    if kind == "zeros":
+        return [rng.choice([0.0, -0.0, 1.0, -1.0, 2.0]) for _ in range(count)]
+    if kind == "tiny":       # multipliers that underflow
+        return [rng.choice([1e-300, -1e-300, 1e300, 1.0, 1e-160, 1e160, 5e-324]) for _ in range(count)]
+    if kind == "huge":       # quotients, products and differences that overflow
+        return [rng.choice([1.7e308, -1.7e308, 1e300, 1e-300, 1.0, 2.0, -1.0]) for _ in range(count)]
+    return [rng.choice(SPECIAL) for _ in range(count)]
+
+
+def some_list(rng, n):
+    return [rng.randint(k, n) for k in range(1, n + 1)]
+
+
+def add_random(cases, rng):
+    """Small patterns, every kind of value, largest and listed, whole and cut."""
+    for turn in range(230):
+        n = rng.randint(1, 7)
+        rows = random_rows(rng, n, rng.choice([0.15, 0.3, 0.5, 0.9]))
+        kind = rng.choice(["plain", "small", "small", "zeros", "tiny", "huge", "special"])
+        values, right = numbers(rng, entries(rows), kind), numbers(rng, n, rng.choice([kind, "plain"]))
+        listed = some_list(rng, n) if turn % 2 else None
+        cut = rng.choice([None, None, 0, 1, n - 1, n]) if n > 1 else rng.choice([None, 0, 1])
+        more = {name: rng.choice([0, 0, 1, 3]) for name in ("lower", "upper")}
+        cases.run(rows, values, right, listed, cut, more=more)
+
+
+def add_named(cases, rng):
+    """The fields worked through, and cases that the papers name."""
+    for listed in (None, [1, 2, 3, 4], [1, 2, 4, 4], [2, 2, 3, 4], [1, 1, 3, 4], [3, 4, 3, 4], [1, 2, 3], [1, 2, 3, 4, 5], [1, 2, 3, 5]):
+        for cut in (None, 0, 1, 2, 3, 4, 5):
+            cases.run(FIELDS, FIELD_VALUES, FIELD_RIGHT, listed, cut)
+    cases.run([[1]], [0.0], [1.0])
+    cases.run([[1]], [-0.0], [1.0], [1])
+    cases.run([[1, 2], [1, 2]], [2.0, 1.0, -2.0, 5.0], [1.0, 1.0])                   # 2 and -2: the upper row
+    cases.run([[1, 2], [1, 2]], [1.0, 1.0, 1.0, 1.0], [1.0, 1.0])                    # exact cancellation: 13 at step 2
+    cases.run([[1, 2], [1, 2]], [1e300, 1.0, 5e-324, 1.0], [1.0, 1.0])               # a multiplier that underflows
+    cases.run([[1, 2], [1, 2]], [1e300, 1.0, -5e-324, 1.0], [1.0, 1.0])              # ... to -0
+    cases.run([[1, 2], [1, 2]], [5e-324, 1.0, 1e300, 1.0], [1.0, 1.0], [1, 2])       # a quotient that overflows
+    cases.run([[1, 2], [1, 2]], [1.0, 1e300, 1e300, 1.0], [1.0, 1.0], [1, 2])        # a product
+    cases.run([[1, 2], [1, 2]], [1.0, 1.7e308, -1.0, 1.7e308], [1.0, 1.0], [1, 2])   # a difference
+    cases.run([[1, 2], [1, 2]], [1.0, 1.0, 1.0, 2.0], [1.7e308, -1.7e308], [1, 2])   # of the right side
+    cases.run([[1, 2], [1, 2]], [1.0, 0.0, 1.0, 2.0], [1.7e308, -1.7e308], [1, 2])
+    cases.run([[1, 2], [2]], [1.0, 1e300, 1e-300], [1.0, 1.0])                       # back substitution, row 2
+    cases.run([[1, 2], [2]], [1.0, 1e300, 1e-200], [1.0, 1.0])                       # row 1: a product
+    cases.run([[1, 2], [2]], [1e-300, 1.0, 1.0], [1e300, 1.0])                       # row 1: a quotient
+    cases.run([[1, 2], [2]], [1.0, 1.7e308, 1.0], [-1.7e308, 1.0])                   # row 1: a difference
+    cases.run([[1, 2], [2]], [1.0, -0.0, 1.0], [1.0, 0.0])
+    cases.run([[1, 2, 3], [2, 3], [3]], [1.0, 1.0, 1.0, 1.0, 1.0, 1.0], [0.0, -0.0, 0.0])
+    for k in range(1, 7):                                                            # 13 at each step
+        rows = shape(6, lambda i, j: j >= i)
+        values = [0.0 if i == k and j == i else 1.0 for i, row in enumerate(rows, 1) for j in row]
+        cases.run(rows, values, [1.0] * 6)
+        cases.run(rows, values, [1.0] * 6, [1, 2, 3, 4, 5, 6], 3)
+    for k in range(1, 6):                                                            # 14 at each step
+        rows = shape(6, lambda i, j: j == i or i == j + 1)
+        values = [1e-200 if i == k and j == i else 1e200 if i == k + 1 and j == k else 1.0 for i, row in enumerate(rows, 1) for j in row]
+        cases.run(rows, values, [1.0] * 6, [1, 2, 3, 4, 5, 6])
+    for k in range(1, 7):                                                            # 14 at each row of back substitution
+        rows = shape(6, lambda i, j: j == i)
+        cases.run(rows, [1e-300 if i == k else 1.0 for i in range(1, 7)], [1e300] * 6)
+
+
+def add_refused(cases, rng):
+    """1 to 6, 9 to 12: lengths, counts, starts and subscripts changed one at a time."""
+    plain = (FIELDS, FIELD_VALUES, FIELD_RIGHT)
+    cases.run(*plain, most=3)                                                                         # 1
+    cases.run(*plain, most=0)
+    cases.run(*plain, most=65535)
+    cases.run(*plain, lent=lambda n, s, c: (0, s, c))
+    cases.run(*plain, lent=lambda n, s, c: (1025, s, c))
+    cases.run(*plain, lent=lambda n, s, c: (4, s[:-1], c))                                            # 2
+    cases.run(*plain, lent=lambda n, s, c: (4, [0, 2, 4, 3, 9], c))
+    cases.run(*plain, lent=lambda n, s, c: (4, [1] + s[1:], c))
+    cases.run(*plain, lent=lambda n, s, c: (4, s, c[:-1] + [5]))                                      # 3
+    cases.run(*plain, lent=lambda n, s, c: (4, s, [0] + c[1:]))
+    cases.run(*plain, lent=lambda n, s, c: (4, s, c[:6] + [2, 2, 4]))                                 # 4
+    cases.run(*plain, lent=lambda n, s, c: (4, s, [2, 3] + c[2:]))                                    # 5
+    for name in WORK_NEXT + WORK_N:                                                                   # 6
+        for change in (-1, 1):
+            cases.run(*plain, more={name: change})
+    for name in ("l_starts", "l_slots", "u_starts", "u_slots"):
+        cases.run(*plain, bend=lambda counts, stores, name=name: stores[name].append(0))
+        cases.run(*plain, bend=lambda counts, stores, name=name: stores[name].pop())
+    for at in range(7):                                                                               # 9
+        for change in (-1, 1):
+            def count(counts, stores):
+                counts[at] += change
+            cases.run(*plain, bend=count)
+    for name in PLAN_STORES:
+        for at in range(len(cases.calls.stores_of(cases.dense.make_plan(4, dict(enumerate(FIELDS, 1))))[name])):
+            def place(counts, stores):
+                stores[name][at] += 1
+            cases.run(*plain, bend=place)
+    cases.run(*plain, bend=lambda counts, stores: stores["l_subs"].pop())
+    cases.run(*plain, bend=lambda counts, stores: stores["u_subs"].pop())
+    cases.run(*plain, bend=lambda counts, stores: stores["u_subs"].append(9))                         # an unused subscript
+    def other(counts, stores):
+        counts[6] += 1
+    cases.run(*plain, bend=other, more={"dense": 1})                                                  # 6 before 9
+    cases.run(FIELDS, FIELD_VALUES[:-1], FIELD_RIGHT, bend=other)                                     # 9 before 10
+    for values, right in ((FIELD_VALUES[:-1], FIELD_RIGHT), (FIELD_VALUES + [1.0], FIELD_RIGHT), (FIELD_VALUES, FIELD_RIGHT[:-1]), (FIELD_VALUES, FIELD_RIGHT + [1.0])):
+        cases.run(FIELDS, values, right)                                                              # 10
+    for name, changes in (("lower", (-1, 1)), ("upper", (-1, 1)), ("diagonal", (-1, 1)), ("solution", (-1, 1)), ("pivots", (-1, 1))):
+        for change in changes:
+            cases.run(*plain, more={name: change})
+    for bad in (math.inf, -math.inf, math.nan):                                                       # 11
+        for at in (0, 4, 8):
+            cases.run(FIELDS, FIELD_VALUES[:at] + [bad] + FIELD_VALUES[at + 1:], FIELD_RIGHT)
+        for at in (0, 3):
+            cases.run(FIELDS, FIELD_VALUES, FIELD_RIGHT[:at] + [bad] + FIELD_RIGHT[at + 1:])
+    cases.run(FIELDS, [math.nan] * 9, FIELD_RIGHT, more={"solution": 1})                              # 10 before 11
+    cases.run(FIELDS, [math.nan] * 9, FIELD_RIGHT, [9, 9, 9, 9], 7)                                   # 11 before 12
+    cases.run(FIELDS, [0.0] * 9, FIELD_RIGHT, [1, 2, 3, 5])                                           # 12 before 13
+    cases.run(FIELDS, FIELD_VALUES, FIELD_RIGHT, [0, 2, 3, 4])
+    cases.run(FIELDS, FIELD_VALUES, FIELD_RIGHT, [])
+
+
+def add_large(cases, rng):
+    """n up to 1,024."""
+    for n, has, kind in ((16, lambda i, j: abs(i - j) < 3, "small"), (24, lambda i, j: i == 24 or j == 1, "plain"), (40, lambda i, j: True, "plain"),
+                         (64, lambda i, j: abs(i - j) in (1, 8), "plain"), (128, lambda i, j: abs(i - j) == 1, "plain")):
+        rows = shape(n, has)
+        for listed in (None, some_list(rng, n)):
+            for cut in (None, 0, 1, n // 2, n - 1, n):
+                cases.run(rows, numbers(rng, entries(rows), kind), numbers(rng, n, "plain"), listed, cut, more={"lower": 5, "upper": 2})
+    for n in (50, 90, 200):
+        rows = random_rows(rng, n, 3 / n)
+        cases.run(rows, numbers(rng, entries(rows), "plain"), numbers(rng, n, "plain"))
+        cases.run(rows, numbers(rng, entries(rows), "plain"), numbers(rng, n, "plain"), some_list(rng, n), n // 3)
+    strip, grid = shape(1024, lambda i, j: abs(i - j) == 1), shape(1024, lambda i, j: abs(i - j) == 32 or (abs(i - j) == 1 and (min(i, j) % 32 or False)))
+    for rows in (strip, grid):
+        cases.run(rows, numbers(rng, entries(rows), "plain"), numbers(rng, 1024, "plain"))
+    cases.run(strip, numbers(rng, entries(strip), "plain"), numbers(rng, 1024, "plain"), [rng.randint(k, min(k + 1, 1024)) for k in range(1, 1025)])
+    cases.run(strip, numbers(rng, entries(strip), "plain"), numbers(rng, 1024, "plain"), None, 1023)
+    diagonal = shape(1024, lambda i, j: False)
+    cases.run(diagonal, numbers(rng, 1024, "plain"), numbers(rng, 1024, "plain"), list(range(1, 1025)))
+    cases.run(shape(1025, lambda i, j: False), numbers(rng, 1025, "plain"), numbers(rng, 1025, "plain"))
+
+
+# ------------------------------------------------------- the ways of a step's two sides
+
+PLACES = ("nothing", "behind", "before", "between", "end")      # what `joined` says of a side
+CHANGED = ("start", "subscript", "slot start")
+TIMES = 3                                                       # how often each pair of places is to occur
+
+
+def list_to_follow(cases, rng, rows):
+    """A row list with which a run finishes, other than the one by the largest entry: that of other values on the same pattern."""
+    n = len(rows)
+    values, right = numbers(rng, entries(rows), "plain"), numbers(rng, n, "plain")
+    return cases.dense.run_square(n, {i: r for i, r in enumerate(rows, 1)}, values, right)[2]
+
+
+def move(numbers, at, change):
+    """Raises or lowers one number by 1; nothing is below zero, so that a zero is raised."""
+    numbers[at] += change if numbers[at] + change >= 0 else -change
+
+
+def own_subscripts(starts, slots, step):
+    """The places of the subscripts that a step adds to its side's store. Where it adds none: those of its list, or all before it."""
+    ends = [starts[k] + slots[k + 1] - slots[k] for k in range(step)]
+    used, first, last = max(ends[:-1], default=0), starts[step - 1], ends[-1]
+    return range(max(used, first), last) or range(first, last) or range(used)
+
+
+def change_store(rng, kind, letter, step, change):
+    """Changes one number of one side that a step is held to. Of the slot starts that is the one behind its own: the step before is held to its own."""
+    def bend(counts, stores):
+        subs, starts, slots = (stores[letter + name] for name in ("_subs", "_starts", "_slots"))
+        if kind == "start":
+            move(starts, step - 1, change)
+        elif kind == "subscript":
+            move(subs, rng.choice(own_subscripts(starts, slots, step)), change)
+        else:
+            move(slots, step, change)
+    return bend
+
+
+def change_count(at, change):
+    def bend(counts, stores):
+        move(counts, at, change)
+    return bend
+
+
+def agreed_with(cases, rng, rows, step, turn):
+    """A pattern's own plan, and a run: by the largest entry or by a list, whole or cut (before the step, behind it, at n), in turn."""
+    listed = list_to_follow(cases, rng, rows) if turn % 2 else None
+    cut = rng.choice((step - 1, step, len(rows))) if turn % 4 > 1 else None
+    values, right = numbers(rng, entries(rows), "plain"), numbers(rng, len(rows), "plain")
+    assert cases.run(rows, values, right, listed, cut)[0] == "granted"
+
+
+def changed_at(cases, rng, rows, step, side, sign, count):
+    """The plan with one number changed at the step: one of each kind, L and U and raised and lowered in turn (`side` and `sign` say what is
+    first), and one of the counts."""
+    values, right = numbers(rng, entries(rows), "plain"), numbers(rng, len(rows), "plain")
+    bends = [change_count(count % 7, (-1, 1)[sign % 2])]
+    for at, kind in enumerate(CHANGED):
+        bends.append(change_store(rng, kind, "lu"[(side + at) % 2], step, (-1, 1)[(sign + at) % 2]))
+    for bend in bends:
+        assert cases.run(rows, values, right, bend=bend) == ("refused", 9, 0)
+
+
+def add_joined(cases, rng):
+    """Patterns at which one row joins the list of the step before, for every pair of what it is to L and to U: each side goes its own way."""
+    pairs = [(lower, upper) for lower in PLACES for upper in PLACES]
+    count, turn = {pair: 0 for pair in pairs}, 0
+    while min(count.values()) < TIMES:
+        for make in (strip_with_steps_between, shared_with_earlier, joining):
+            rows = make(rng)
+            wanted = [found for found in joined(cases, rows) if count[found.sides] < TIMES]
+            if wanted:
+                agreed_with(cases, rng, rows, wanted[0].step, turn)
+                turn += 1
+            for found in wanted:
+                # a pair's first two times have every kind on both sides, its third time has another sign
+                order, time = pairs.index(found.sides), count[found.sides]
+                changed_at(cases, rng, rows, found.step, order // 2 + time, order + time // 2, order + time)
+                count[found.sides] += 1
+    return count
+
+
+def add_together(cases, rng):
+    """Many rows first met at one step: neither side goes the short way there."""
+    kinds = ["inside", "equal", "beginning", "behind", "between", "before"]
+    orders = [[kind] for kind in kinds] + [["between", kind] for kind in kinds if kind != "between"] + [kinds]
+    for number, order in enumerate(orders):
+        step = 1 + number % 3
+        rows = []
+        while sum(row[0] == step for row in rows) < 3:          # some drawn lists have no room for what `order` asks
+            rows = together(rng, 11 + number % 6, step, order, handed=number % 2 == 1)
+        agreed_with(cases, rng, rows, step, number)
+        changed_at(cases, rng, rows, step, number // 2, number, number)
+
+
+def main():
+    if len(sys.argv) != 2:
+        raise SystemExit(__doc__)
+    sys.path.insert(0, sys.argv[1])
+    import calls
+    import dense
+    rng, cases = random.Random(19841984), Cases(calls, dense)
+    add_named(cases, rng)
+    add_refused(cases, rng)
+    add_random(cases, rng)
+    add_large(cases, rng)
+    rng = random.Random(19841985)       # a seed of their own, so that the requests above can stay as they are
+    sides = add_joined(cases, rng)
+    add_together(cases, rng)
+    crate = os.path.join(os.path.dirname(os.path.abspath(__file__)), "..", "crates", "cases_elimination")
+    with open(os.path.join(crate, "stdin"), "wb") as file:
+        file.write(cases.bytes)
+    with open(os.path.join(crate, "stdout"), "w", encoding="ascii") as file:
+        file.write("\n".join(cases.lines) + "\n")
+    print(f"{cases.count} requests; finished {cases.finished}; refused {dict(sorted(cases.answers.items()))}; "
+          f"steps of 13 {sorted(cases.steps[13])}, of 14 {sorted(cases.steps[14])}; "
+          f"{len(sides)} pairs of what a row is to L and to U, each at {min(sides.values())} steps")
+
+
+if __name__ == "__main__":
+    main()
