@@ -289,6 +289,28 @@ static int zero_from(const uint8_t *bytes, size_t from, size_t length)
     return 1;
 }
 
+/* A store for the text that has another length than 8,192 is 6 and zeros; `answer` may have any length. */
+static void test_text_stores(const uint8_t *job, size_t length, size_t printed)
+{
+    static uint8_t out[DLM_MOST_PRINTED + 2];
+    static const size_t others[] = {0, 1, DLM_MOST_PRINTED - 1, DLM_MOST_PRINTED + 1};
+    size_t answer[5];
+    size_t which;
+    for (which = 0; which < sizeof others / sizeof others[0]; which++) {
+        memset(out, 1, sizeof out);
+        memset(answer, 1, sizeof answer);
+        expect(dalumiveth_job(job, length, out, others[which], answer, 4) == 6, "a text store of another length is 6");
+        expect(answer[0] == 6 && answer[1] == 0 && answer[2] == 0 && answer[3] == 0, "and no byte is told");
+        expect(zero_from(out, 0, others[which]) && out[others[which]] == 1, "it is zeros, and nothing behind it is written");
+    }
+    memset(answer, 1, sizeof answer);
+    expect(dalumiveth_job(job, length, out, DLM_MOST_PRINTED, answer, 4) == 0, "a text store of 8,192 is taken");
+    expect(answer[0] == 0 && answer[1] == 0 && answer[2] == printed && answer[3] == 0, "the number of bytes is told");
+    memset(answer, 1, sizeof answer);
+    expect(dalumiveth_job(job, length, out, DLM_MOST_PRINTED, answer, 1) == 0 && answer[0] == 0 && answer[1] != 0, "a shorter answer");
+    expect(dlm_answer_job(job, length, NULL) == 0, "no text store");
+}
+
 /* The whole answer to the four-field job, as document 01 prints it. */
 static void test_job(const char *path)
 {
@@ -303,8 +325,7 @@ static void test_job(const char *path)
         fclose(file);
     expect(printed == sizeof listing - 1 && memcmp(out, listing, printed) == 0 && zero_from(out, printed, sizeof out), "the listing");
     memset(out, 1, sizeof out);
-    expect(dalumiveth_job(job, length, out, printed - 1) == printed && zero_from(out, 0, printed - 1), "a shorter store is zeros");
-    expect(out[printed - 1] == 1, "and nothing behind it is written");
+    test_text_stores(job, length, printed);
     printed = dlm_answer_job(NULL, 0, out);
     expect(printed == 13 && memcmp(out, "refused 16 0\n", 13) == 0, "no bytes are 16");
     printed = dlm_answer_job(job, sizeof job, out);

@@ -93,9 +93,12 @@ contains
   subroutine test_job()
     integer(c_int8_t) :: out(8192)
     character(len=13) :: text
-    integer(dlm_size) :: printed
-    printed = dalumiveth_job([78_c_int8_t], 1_dlm_size, out, 8192_dlm_size)
+    integer(dlm_size) :: number, answer(3)
+    number = dalumiveth_job([78_c_int8_t], 1_dlm_size, out, 8192_dlm_size, answer, 3_dlm_size)
     text = transfer(out(1:13), text)
-    call expect(printed == 13 .and. text == "refused 16 0" // new_line("a"), "the byte N alone is 16")
+    call expect(number == 0 .and. all(answer == [0, 0, 13]), "the job is answered")
+    call expect(text == "refused 16 0" // new_line("a"), "the byte N alone is 16")
+    number = dalumiveth_job([78_c_int8_t], 1_dlm_size, out, 8191_dlm_size, answer, 3_dlm_size)
+    call expect(number == 6 .and. all(answer == [6, 0, 0]) .and. all(out(1:8191) == 0), "a shorter text store is 6")
   end subroutine
 end program

@@ -126,13 +126,14 @@ module dalumiveth
       integer(c_size_t) :: number
     end function
 
-    ! Bytes to bytes: 8,192 places of `out` hold the answer to any job. Returns how many are printed.
-    function dalumiveth_job(job, job_length, out, out_length) result(printed) bind(c)
+    ! Bytes to bytes: `out` has 8,192 places, room for every answer, else 6. In `answer`: number, step, how many bytes are printed.
+    function dalumiveth_job(job, job_length, out, out_length, answer, answer_length) result(number) bind(c)
       import :: c_size_t, c_int8_t
-      integer(c_size_t), value :: job_length, out_length
+      integer(c_size_t), value :: job_length, out_length, answer_length
       integer(c_int8_t), intent(in) :: job(*)
       integer(c_int8_t), intent(inout) :: out(*)
-      integer(c_size_t) :: printed
+      integer(c_size_t), intent(inout) :: answer(*)
+      integer(c_size_t) :: number
     end function
   end interface
 
@@ -261,7 +262,7 @@ contains
     case (3); sentence = "a column is outside 1 to n"
     case (4); sentence = "the columns of a row do not ascend strictly"
     case (5); sentence = "a row lacks its diagonal"
-    case (6); sentence = "a starts store of the plan, or a work store, has a wrong length"
+    case (6); sentence = "a starts store of the plan, a work store, or the store for a job's text has a wrong length"
     case (7); sentence = "an L subscript does not fit into its store"
     case (8); sentence = "a U subscript does not fit into its store"
     case (9); sentence = "the lent plan is not this pattern's: some count, start or used subscript differs"

@@ -60,7 +60,8 @@ typedef enum dlm_refusal {
     DLM_COLUMN = 3,         /* a column is outside 1 to n */
     DLM_ORDER = 4,          /* the columns of a row do not ascend strictly */
     DLM_DIAGONAL = 5,       /* a row lacks its diagonal */
-    DLM_STORES = 6,         /* a starts store of the plan, or a work store, has another length than the one given with it below */
+    DLM_STORES = 6,         /* a starts store of the plan, a work store, or the store for a job's text has another length than the one given
+                               with it below */
     DLM_LOWER_ROOM = 7,     /* an L subscript does not fit; the step */
     DLM_UPPER_ROOM = 8,     /* a U subscript does not fit; the step */
     DLM_OTHER_PLAN = 9,     /* the lent plan differs from the pattern's in some count, start or used subscript */
@@ -86,7 +87,7 @@ static inline const char *dlm_sentence(size_t number)
         "a column is outside 1 to n",
         "the columns of a row do not ascend strictly",
         "a row lacks its diagonal",
-        "a starts store of the plan, or a work store, has a wrong length",
+        "a starts store of the plan, a work store, or the store for a job's text has a wrong length",
         "an L subscript does not fit into its store",
         "a U subscript does not fit into its store",
         "the lent plan is not this pattern's: some count, start or used subscript differs",
@@ -243,8 +244,10 @@ size_t dalumiveth_run(size_t most, size_t n, const size_t *starts, size_t starts
 /* answer: number (0 or 19), step 0, and the sum that the tally has afterwards (19: the old one). */
 size_t dalumiveth_tally_add(uint32_t sum, size_t updates, size_t *answer, size_t answer_length);
 
-/* Returns how many bytes are printed, at most 8,192; they stand in `out`, zeros behind. A shorter `out` is all zeros. */
-size_t dalumiveth_job(const uint8_t *job, size_t job_length, uint8_t *out, size_t out_length);
+/* out: 8,192 places (DLM_MOST_PRINTED), room for every answer (proved): the bytes that are printed for the job, zeros behind. answer: number (0 or
+   6), step 0, and how many bytes are printed. An `out` of another length is 6 and all zeros. What is wrong with the job is printed, and is
+   no refusal of the call. */
+size_t dalumiveth_job(const uint8_t *job, size_t job_length, uint8_t *out, size_t out_length, size_t *answer, size_t answer_length);
 
 /* ------------------------------------------------------------------ lending */
 
@@ -489,11 +492,16 @@ static inline dlm_answer dlm_tally_add(uint32_t *tally, size_t updates)
 }
 
 /* What the job program prints for the bytes of a job: `out` has 8,192 places (DLM_MOST_PRINTED). Returns how many of them are printed; zeros
-   stand behind. A refusal is printed too. */
+   stand behind. A refusal of the job is printed too, so that there is always a byte; 0 is returned where `out` is NULL, a store without
+   places (6). */
 static inline size_t dlm_answer_job(const uint8_t *job, size_t job_length, uint8_t *out)
 {
-    static const uint8_t nowhere = 0;
-    return dalumiveth_job(job != NULL ? job : &nowhere, job != NULL ? job_length : 0, out, DLM_MOST_PRINTED);
+    static const uint8_t nothing = 0;
+    uint8_t nowhere = 0;
+    size_t answer[3] = {0};
+    dalumiveth_job(job != NULL ? job : &nothing, job != NULL ? job_length : 0, out != NULL ? out : &nowhere,
+                   out != NULL ? DLM_MOST_PRINTED : 0, answer, 3);
+    return answer[2];
 }
 
 /* ------------------------------------------------------------------ the square's places */

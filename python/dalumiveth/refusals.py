@@ -8,7 +8,7 @@ SENTENCES = {
     3: ("pattern", "a column is outside 1 to n"),
     4: ("pattern", "columns do not ascend strictly in a row"),
     5: ("pattern", "a row lacks its diagonal"),
-    6: ("plan stores", "a starts store of the plan or a work store has another length than it must have"),
+    6: ("plan stores", "a starts store of the plan, a work store or the store for a job's text has another length than it must have"),
     7: ("plan stores", "an L subscript does not fit"),
     8: ("plan stores", "a U subscript does not fit"),
     9: ("values", "the lent plan differs from this pattern's plan in some count, start or used subscript"),

@@ -6,6 +6,7 @@ import unittest
 
 import numpy as np
 
+from dalumiveth.library import USIZE, call, lend
 from support import csr, dalumiveth, diagonal, four_fields, refusal_of
 
 
@@ -175,6 +176,19 @@ class OfJobs(unittest.TestCase):
         self.assertEqual(dalumiveth.job(self.ONE + b"Z"), b"refused 17 0\n")
         self.assertEqual(dalumiveth.job(bytes(16385)), b"refused 18 0\n")
         self.assertEqual(dalumiveth.job(bytes(16384)), b"refused 15 0\n")
+
+    def test_6(self):
+        """The exported function itself: a store for the text has 8,192 places, no fewer and no more."""
+        read = np.frombuffer(self.ONE, dtype=np.uint8)
+        for room in (0, 1, 8191, 8193):
+            out, answer = np.ones(room, dtype=np.uint8), np.ones(4, dtype=USIZE)
+            self.assertEqual(call("dalumiveth_job", *lend(read, out, answer)), 6)
+            self.assertEqual((answer.tolist(), out.any()), ([6, 0, 0, 0], False), room)
+        out, answer = np.ones(8192, dtype=np.uint8), np.ones(4, dtype=USIZE)
+        self.assertEqual(call("dalumiveth_job", *lend(read, out, answer)), 0)
+        text = dalumiveth.job(self.ONE)
+        self.assertEqual(answer.tolist(), [0, 0, len(text), 0])
+        self.assertEqual(out.tobytes(), text.ljust(8192, b"\0"))
 
     def test_no_bytes(self):
         for data in ("N", None, [1, 2]):

@@ -1,13 +1,15 @@
 -- From what a call keeps, and what is told of its answer, to the contract of the exported function.
-use mathlib.Core.List.{List, []}
+use mathlib.Core.Bool.{true, false}
+use mathlib.Core.List.{List, [], _∷_}
 use mathlib.Core.Path.{_≡_, ap, subst, _∙_}
-use Prim.Native.Nat.{ℕ, _≤_, _<_}
+use Prim.Native.Nat.{ℕ, _+_, _-_, _≤_}
 use native.Mathlib.Omega.{arith}
-use lib.ListN.{length, take}
-use borrow.Author.Tests.{le-leb, lt-leb}
+use lib.Dec.{eqb}
+use lib.ListN.{length, take, length-append, length-replicate}
+use borrow.Author.Tests.{eq-eqb, ne-eqb}
 use Rattle.lists.specs.Functions.{padded}
 use Rattle.lists.proofs.Places.{padded-take}
-use Rattle.foundation.specs.Answer.{Answer}
+use Rattle.foundation.specs.Answer.{Answer, refuseIf, resultStore}
 use Rattle.foundation.specs.Pattern.{Lent}
 use Rattle.foundation.specs.PlanCall.{PlanStores, Counts}
 use Rattle.foundation.specs.Printing.{printed}
@@ -27,9 +29,9 @@ use Rattle.planning.specs.Calls.{PlanKept, VerifyKept}
 use Rattle.elimination.specs.Calls.{RunWork, RunKept}
 use Rattle.tally.specs.Calls.{tallyAnswerOf}
 use Rattle.tally.specs.declared.TallyAnswer.{TallyAnswer}
-use Rattle.numbers.specs.Numbered.{refusalNumber, planNumbers, verifyNumbers, runNumbers, tallyNumbers, cutOrPadded, countsFrom}
+use Rattle.numbers.specs.Numbered.{refusalNumber, numbersOf, planNumbers, verifyNumbers, runNumbers, jobNumbers, tallyNumbers, cutOrPadded, countsFrom}
 use Rattle.numbers.proofs.CutOrPadded.{cut-or-padded-whole, cut-or-padded-none}
-use Rattle.dalumiveth.specs.Calls.{lentFrom, PlanTold, VerifyTold, RunTold, TallyTold, wholly, JobTold}
+use Rattle.dalumiveth.specs.Calls.{lentFrom, PlanTold, VerifyTold, RunTold, TallyTold, textRoom, jobCall, JobTold}
 
 -- what a telling function ensures of an answer, given what the answer is
 module _ {A : Type 0} (shown : Answer A → List ℕ) (r : ℕ) (answer answer′ : List ℕ) (a b : Answer A) (same : a ≡ b)
@@ -91,22 +93,32 @@ tally-told r sum updates answer answer′ a e t =
       numbers = told-is (tallyNumbers sum) r answer answer′ _ _ e t;
     }
 
--- the printed bytes, in a store that has room for all of them
-pub job-told : (count : ℕ) (job out out′ bytes : List ℕ) → count ≡ length (printed job) → bytes ≡ padded 0 8192 (printed job)
-    → count ≤ length out → out′ ≡ cutOrPadded (length out) (take count bytes) → JobTold count job out out′
-unfolding wholly
-job-told count job out out′ bytes e b h l =
-    let front : take count bytes ≡ printed job = rw (b, e) (padded-take 0 8192 (printed job)) in
-    let fits : length (printed job) ≤ length out = omega arith in
+-- a text that was padded to so many places has no more
+within-room : (room : ℕ) (text bytes : List ℕ) → bytes ≡ padded 0 room text → length bytes ≡ room → length text ≤ room
+unfolding padded
+within-room room text bytes e l =
+    let long : length text + (room - length text) ≡ room = rw (e, length-append, length-replicate) at l in
+    omega arith
+
+-- the printed bytes, in a store that has the room of every answer
+pub job-told : (count : ℕ) (job out out′ answer answer′ bytes : List ℕ) → length out ≡ textRoom → length bytes ≡ textRoom
+    → (count ≡ length (printed job)) × (bytes ≡ padded 0 textRoom (printed job)) → out′ ≡ cutOrPadded (length out) (take count bytes)
+    → answer′ ≡ cutOrPadded (length answer) (0 ∷ 0 ∷ count ∷ []) → JobTold 0 job out out′ answer answer′
+unfolding jobCall refuseIf resultStore refusalNumber jobNumbers numbersOf
+job-told count job out out′ answer answer′ bytes sized long (e, b) o a =
+    let fits : eqb (length out) textRoom ≡ true = eq-eqb (length out) textRoom sized in
+    let front : take count bytes ≡ printed job = rw (b, e) (padded-take 0 textRoom (printed job)) in
+    let short : length (printed job) ≤ length out = rw sized (within-room textRoom (printed job) bytes b long) in
     record {
-      returned = e;
-      text = l ∙ ap (cutOrPadded (length out)) front ∙ cut-or-padded-whole (length out) (printed job) fits ∙ rw (le-leb (length (printed job)) (length out) fits);
+      returned = rw fits;
+      numbers = rw fits (rw e at a);
+      text = rw fits (o ∙ ap (cutOrPadded (length out)) front ∙ cut-or-padded-whole (length out) (printed job) short);
     }
 
--- in a store that has not
-pub job-too-long : (count : ℕ) (job out out′ : List ℕ) → count ≡ length (printed job)
-    → length out < count → out′ ≡ cutOrPadded (length out) [] → JobTold count job out out′
-unfolding wholly
-job-too-long count job out out′ e h l =
-    let long : length out < length (printed job) = omega arith in
-    record { returned = e; text = l ∙ cut-or-padded-none (length out) ∙ rw (lt-leb (length (printed job)) (length out) long) }
+-- a store of any other length
+pub job-refused : (r : ℕ) (job out out′ answer answer′ : List ℕ) → (length out ≡ textRoom → ⊥) → out′ ≡ cutOrPadded (length out) []
+    → (r ≡ 6) × (answer′ ≡ cutOrPadded (length answer) (6 ∷ 0 ∷ [])) → JobTold r job out out′ answer answer′
+unfolding jobCall refuseIf resultStore refusalNumber jobNumbers numbersOf
+job-refused r job out out′ answer answer′ other o t =
+    let fails : eqb (length out) textRoom ≡ false = ne-eqb (length out) textRoom other in
+    record { returned = rw fails (t .0); numbers = rw fails (t .1); text = rw fails (o ∙ cut-or-padded-none (length out)) }

@@ -1,12 +1,12 @@
 -- What the exported functions promise, whatever they are given: what is returned, what is told in the store `answer`, and what each lent store is afterwards (′).
 -- What the calls answer and leave is the foundation's; here it is only told in numbers.
-use mathlib.Core.Bool.{cond}
+use mathlib.Core.Bool.{cond, not}
 use mathlib.Core.List.{List}
 use mathlib.Core.Path.{_≡_}
 use Prim.Native.Nat.{ℕ}
-use lib.Dec.{eqb, leb}
-use lib.ListN.{length, replicate}
-use Rattle.lists.specs.Functions.{padded}
+use lib.Dec.{eqb}
+use lib.ListN.{length}
+use Rattle.foundation.specs.Answer.{Answer, granted, refuseIf, resultStore}
 use Rattle.foundation.specs.Pattern.{Lent}
 use Rattle.foundation.specs.PlanCall.{PlanStores, LentPlan, planned, planAnswer, planLeaves, held}
 use Rattle.foundation.specs.Printing.{printed}
@@ -18,7 +18,7 @@ use Rattle.answers.specs.Stores.{WorkStores, workSizes, WorkLeft}
 use Rattle.answers.specs.declared.PivotChoice.{PivotChoice}
 use Rattle.answers.specs.declared.PivotChoice.the-variants.{Largest, Listed}
 use Rattle.elimination.specs.Calls.{RunWork, runWorkSizes, RunWorkLeft}
-use Rattle.numbers.specs.Numbered.{refusalNumber, planNumbers, verifyNumbers, runNumbers, tallyNumbers, cutOrPadded, countsFrom}
+use Rattle.numbers.specs.Numbered.{refusalNumber, planNumbers, verifyNumbers, runNumbers, jobNumbers, tallyNumbers, cutOrPadded, countsFrom}
 
 -- a lent plan, its counts given as numbers
 abbrev pub lentFrom : List ℕ → PlanStores → LentPlan
@@ -57,11 +57,18 @@ pub record TallyTold (r sum updates : ℕ) (answer answer′ : List ℕ) : Type 
   -- 0, 0 and the new sum, or 19, 0 and the old one
   pub numbers : answer′ ≡ cutOrPadded (length answer) (tallyNumbers sum (tallyAnswer sum updates))
 
--- what a store of `room` places holds of a text: all of it and zeros behind it, or zeros throughout if it is too long
-unfoldable pub wholly : ℕ → List ℕ → List ℕ
-wholly room text = cond (leb (length text) room) (padded 0 room text) (replicate room 0)
+-- the places that a store for a job's text has: room for every answer
+abbrev pub textRoom : ℕ
+textRoom = 8192
 
-pub record JobTold (r : ℕ) (job out out′ : List ℕ) : Type 0 where
-  -- how many bytes are printed
-  pub returned : r ≡ length (printed job)
-  pub text : out′ ≡ wholly (length out) (printed job)
+-- The call for a job's text, by the length of the lent store: any other length is 6, step 0, as document 02 has it of a result store of fixed length ("else 6, checked first").
+-- What is refused of the job itself is printed, and is no refusal of the call.
+unfoldable pub jobCall : ℕ → List ℕ → Answer (List ℕ)
+jobCall room job = refuseIf (not (eqb room textRoom)) 6 (granted (printed job))
+
+pub record JobTold (r : ℕ) (job out out′ answer answer′ : List ℕ) : Type 0 where
+  pub returned : r ≡ refusalNumber (jobCall (length out) job)
+  -- how many bytes are printed, or the refusal
+  pub numbers : answer′ ≡ cutOrPadded (length answer) (jobNumbers (jobCall (length out) job))
+  -- the printed bytes and zeros behind them, or zeros throughout
+  pub text : out′ ≡ resultStore 0 (length out) (λ text. text) (jobCall (length out) job)

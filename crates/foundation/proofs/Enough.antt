@@ -68,7 +68,7 @@ added-few s side sh k =
     (λ e. rw e (by-test (ltb 0 (soleStep s (suc k))) (λ f. rw f (omega arith)) (λ f. rw (f, length-drop) (omega arith))))
 
 -- so a side has no more subscripts than slots
-subscripts-few : (s : Planning) (side : Side) (k : ℕ) → length ((shared s side k) .store) ≤ slotsOf s side k
+pub subscripts-few : (s : Planning) (side : Side) (k : ℕ) → length ((shared s side k) .store) ≤ slotsOf s side k
 unfolding shared
 subscripts-few s side zero = omega arith
 subscripts-few s side (suc k) =

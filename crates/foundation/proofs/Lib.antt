@@ -20,6 +20,11 @@ pub mod LaidBack
 pub mod OwnSlots
 pub mod MetOnce
 pub mod JobRoom
+pub mod Digits
+pub mod PrintedLengths
+pub mod RunBounds
+pub mod JobRefusals
+pub mod AnswerRoom
 pub mod Alike
 pub mod Enough
 pub mod Accepted

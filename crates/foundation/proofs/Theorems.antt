@@ -12,7 +12,7 @@ use Rattle.foundation.specs.Plan.{Side, plan}
 use Rattle.foundation.specs.Subscripts.{kept}
 use Rattle.foundation.specs.RunCall.{Lending, allFinite, valueAt, rightAt}
 use Rattle.foundation.specs.Facts.{PlanFacts, Opens, sizesOf}
-use Rattle.foundation.specs.Claims.{FirstHalf, RunsOn, SlotsSuffice, MultipliersStay, ZeroOutside, LaidBack, OwnSlots, SlotsWithin, MetOnce, JobRoom, RunsAlike, ListedPivots, PivotsCounted, PlanAccepted, RoomEnough, SlotsEnough, PlannedRunsAlike, LargestRow, ListedRow, StoresOpen, FiniteGiven, FiniteThroughout, LargestAtEveryStep}
+use Rattle.foundation.specs.Claims.{FirstHalf, RunsOn, SlotsSuffice, MultipliersStay, ZeroOutside, LaidBack, OwnSlots, SlotsWithin, MetOnce, JobRoom, RunsAlike, ListedPivots, PivotsCounted, PlanAccepted, RoomEnough, SlotsEnough, PlannedRunsAlike, LargestRow, ListedRow, StoresOpen, FiniteGiven, FiniteThroughout, LargestAtEveryStep, AnswerRoom}
 use Rattle.foundation.proofs.Passing.{passes-plannable, passes-entries}
 use Rattle.foundation.proofs.Steps.{list-none}
 use Rattle.foundation.proofs.PlanFacts.{plan-facts}
@@ -26,6 +26,7 @@ use Rattle.foundation.proofs.LaidBack.{laid-back-from}
 use Rattle.foundation.proofs.OwnSlots
 use Rattle.foundation.proofs.MetOnce.{met-once-from}
 use Rattle.foundation.proofs.JobRoom
+use Rattle.foundation.proofs.AnswerRoom
 use Rattle.foundation.proofs.Alike
 use Rattle.foundation.proofs.Alike.{runs-alike-from}
 use Rattle.foundation.proofs.Accepted
@@ -96,6 +97,10 @@ met-once = met-once-from plan-facts passes-plannable
 -- the program's stores fit but for their room of 2,048
 pub job-room : JobRoom
 job-room = JobRoom.job-room
+
+-- 8,192 bytes are room for every answer
+pub answer-room : AnswerRoom
+answer-room = AnswerRoom.answer-room
 
 -- demand 3, second half
 pub runs-alike : RunsAlike

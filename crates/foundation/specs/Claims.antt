@@ -23,7 +23,7 @@ use Rattle.foundation.specs.Free.{FreeStep, FreeState, freeStart, freeRu
 use Rattle.foundation.specs.PlanCall.{SideStores, PlanStores, LentPlan, WorkSizes, workFits, sizesFit, agrees, countsOf, planned, planLeaves, held}
 use Rattle.foundation.specs.RunCall.{Lending, lendingFits, allFinite, orderFits, valueAt, rightAt, Ran, ranWith, ran, runAnswer, RunStores, runLeaves}
 use Rattle.foundation.specs.Job.{Job}
-use Rattle.foundation.specs.Printing.{jobRun}
+use Rattle.foundation.specs.Printing.{jobRun, printed}
 
 -- Demand 3, first half, "one claim about the whole list of steps, the empty list included": for every pattern that can be planned, every set of
 -- numbers at its places (of any kind A, of which only whether one is zero counts), and every list of steps of the free elimination, refused steps
@@ -152,6 +152,10 @@ JobRoom =
       lowerSlots = 2048;
       upperSlots = 2048;
     }))
+
+-- 8,192 bytes are room for every answer: whatever bytes the program reads, a job or not, it prints no more.
+unfoldable pub AnswerRoom : Type 0
+AnswerRoom = (job : List ℕ) → length (printed job) ≤ 8192
 
 -- ---- demand 3, second half: the run in the slots and the full square's
 

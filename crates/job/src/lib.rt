@@ -12,6 +12,9 @@ use job_sizes::JOB_BYTES;
 // The bytes of the longest job that is read: a longer one is refused whatever its bytes are.
 pub const LONGEST: usize = JOB_BYTES;
 
+// The places of a store for an answer: room for every one.
+pub const ROOM: usize = ANSWER_ROOM;
+
 // The bytes that are printed, and how many they are; the rest is zero.
 pub struct JobAnswer {
     pub bytes: [u8; ANSWER_ROOM],

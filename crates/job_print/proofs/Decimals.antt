@@ -1,50 +1,14 @@
--- Decimal digits: a number is the number without its last digit, and that digit; a usize has at most 20.
-use mathlib.Core.Path.{_≡_, refl, ap, sym, _∙_}
-use mathlib.Core.List.{List, [], _∷_, _++_}
-use Prim.Native.Nat.{ℕ, zero, suc, _+_, _*_, _/_, _%_, _≤_, _<_}
-use native.Mathlib.Nat.{div-lt-self}
+-- Decimal digits, written: those of the number without its last digit, then that digit.
+use mathlib.Core.Path.{_≡_}
+use mathlib.Core.List.{List, [], _∷_}
+use Prim.Native.Nat.{ℕ, _+_, _/_, _%_, _≤_, _<_}
 use native.Mathlib.Omega.{arith}
-use lib.Dec.{ltb}
 use lib.ListN.{length, length-append}
-use lib.Seq.{append-snoc}
-use borrow.Author.Tests.{lt-ltb, le-ltb, ltb-true, ltb-false}
-use Rattle.lists.proofs.Members.{by-test}
-use Rattle.foundation.specs.Printing.{digits, decimal, spaced}
+use Rattle.foundation.specs.Printing.{decimal, spaced}
 use Rattle.foundation.specs.Text.{ascii}
+use Rattle.foundation.proofs.Digits.{decimal-one, decimal-more, decimal-short}
 use Rattle.job_print.specs.Appended.{Appended}
 use Rattle.job_print.proofs.Appending.{append-then}
-
--- what stands behind the digits stands apart from them
-digits-tail : (turns n : ℕ) (tail : List ℕ) → digits turns n tail ≡ digits turns n [] ++ tail
-unfolding digits
-digits-tail zero n tail = refl
-digits-tail (suc turns) n tail =
-    by-test (ltb n 10) (λ e. rw e)
-    (λ e. rw e (digits-tail turns (n / 10) ((48 + n % 10) ∷ tail) ∙ rw (digits-tail turns (n / 10) ((48 + n % 10) ∷ []), append-snoc)))
-
--- more turns than digits change nothing
-digits-turns : (a b n : ℕ) → n < a → n < b → digits a n [] ≡ digits b n []
-unfolding digits
-digits-turns zero b n h k = absurd (omega arith)
-digits-turns (suc a) zero n h k = absurd (omega arith)
-digits-turns (suc a) (suc b) n h k =
-    by-test (ltb n 10) (λ e. rw e)
-    (λ e.
-    let m : 10 ≤ n = ltb-false n 10 e in
-    let l : n / 10 < n = div-lt-self {n = n} {k = 10} (omega arith) (omega arith) in
-    rw e
-    (digits-tail a (n / 10) ((48 + n % 10) ∷ []) ∙ rw (digits-turns a b (n / 10) (omega arith) (omega arith)) (sym (digits-tail b (n / 10) ((48 + n % 10) ∷ [])))))
-
-decimal-one : (n : ℕ) → n < 10 → decimal n ≡ (48 + n) ∷ []
-unfolding decimal digits
-decimal-one n h = rw (lt-ltb n 10 h)
-
-decimal-more : (n : ℕ) → 10 ≤ n → decimal n ≡ decimal (n / 10) ++ ((48 + n % 10) ∷ [])
-unfolding decimal digits
-decimal-more n h =
-    let l : n / 10 < n = div-lt-self {n = n} {k = 10} (omega arith) (omega arith) in
-    rw (le-ltb n 10 h)
-    (digits-tail n (n / 10) ((48 + n % 10) ∷ []) ∙ ap (λ (d : List ℕ). d ++ ((48 + n % 10) ∷ [])) (digits-turns n (suc (n / 10)) (n / 10) (omega arith) (omega arith)))
 
 -- ---- one digit
 
@@ -69,24 +33,6 @@ room-before at room n h k =
 
 pub last-room : (was mid : List ℕ) (at m n : ℕ) → 10 ≤ n → at + length (decimal n) ≤ length was → Appended was at (decimal (n / 10)) mid m → m < length mid
 last-room was mid at m n h k p = omega (arith, p .size, p .ends, room-before at (length was) n h k)
-
--- ---- how long a number is
-
-unfoldable power : ℕ → ℕ
-power zero = 1
-power (suc k) = 10 * power k
-
-decimal-length : (k n : ℕ) → n < power (suc k) → length (decimal n) ≤ suc k
-unfolding power
-decimal-length zero n h = rw (decimal-one n (omega arith)) (omega arith)
-decimal-length (suc k) n h =
-    by-test (ltb n 10) (λ e. rw (decimal-one n (ltb-true n 10 e)) (omega arith))
-    (λ e. rw (decimal-more n (ltb-false n 10 e)) (simp length-append (omega (arith, decimal-length k (n / 10) (omega arith)))))
-
--- 2 to the power of 64 has 20 digits
-decimal-short : (n : ℕ) → n < 18446744073709551616 → length (decimal n) ≤ 20
-unfolding power
-decimal-short n h = decimal-length 19 n (omega arith)
 
 -- ---- a space and a number
 

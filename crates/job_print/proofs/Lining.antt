@@ -1,7 +1,7 @@
 -- Numbers, and lines of numbers, one behind the other.
 use mathlib.Core.Path.{_≡_, ap, _∙_}
 use mathlib.Core.List.{List, [], _∷_, _++_, append-nil, append-assoc}
-use Prim.Native.Nat.{ℕ, suc, _+_, _-_, _*_, _≤_, _<_}
+use Prim.Native.Nat.{ℕ, suc, _+_, _*_, _≤_, _<_}
 use native.Mathlib.Nat.{mul-suc, mul-le-mul-left}
 use native.Mathlib.Numerals.{add-one}
 use native.Mathlib.Omega.{arith}
@@ -13,10 +13,10 @@ use Rattle.lists.proofs.Places.{chain-append}
 use Rattle.foundation.specs.Numbers.{bitsOf}
 use Rattle.foundation.specs.Printing.{hexDigits, hexBits, spaced}
 use Rattle.foundation.specs.Text.{ascii}
+use Rattle.foundation.proofs.Digits.{hex-length}
 use Rattle.job_print.specs.Appended.{Appended}
 use Rattle.job_print.specs.Lines.{numbersLine, valueLine, valueLines}
 use Rattle.job_print.proofs.Appending.{append-none, append-then}
-use Rattle.job_print.proofs.Hexadecimals.{hex-length}
 
 -- lines of at most w places each, n of them from a place on: room for the next one, where it ends, and where the last one ends
 pub lines-room : (w at i n : ℕ) {end out out₀ : ℕ} → end ≤ at + w * i → i < n → at + w * n ≤ out₀ → out ≡ out₀ → end + w ≤ out

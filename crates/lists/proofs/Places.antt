@@ -169,6 +169,12 @@ module _ {ℓ κ} {A : Type ℓ} {B : Type κ} where
   chain-append f [] ys = refl
   chain-append f (x ∷ xs) ys = rw (chain-append f xs ys) (sym (append-assoc (f x) (chain f xs) (chain f ys)))
 
+  -- lists one behind the other are as long as all together
+  pub length-chain : (f : A → List B) (xs : List A) → length (chain f xs) ≡ total (λ x. length (f x)) xs
+  unfolding chain total
+  length-chain f [] = refl
+  length-chain f (x ∷ xs) = rw (length-append, length-chain f xs)
+
   -- what stands at each place of the list that belongs to one member
   pub getD-chain : (f : A → List B) (p : List A) (x : A) (q : List A) (i : ℕ) (z : B) → i < length (f x)
       → getD (chain f (p ++ x ∷ q)) (length (chain f p) + i) z ≡ getD (f x) i z

@@ -3,7 +3,7 @@ use mathlib.Core.Bool.{cond}
 use mathlib.Core.List.{List, [], _∷_}
 use Prim.Native.Nat.{ℕ}
 use lib.Dec.{eqb}
-use lib.ListN.{getD, take}
+use lib.ListN.{length, getD, take}
 use Rattle.lists.specs.Functions.{padded}
 use Rattle.foundation.specs.Answer.{Answer, refused, granted}
 use Rattle.foundation.specs.PlanCall.{Counts, countNumbers}
@@ -40,6 +40,10 @@ verifyNumbers = numbersOf (λ v. [])
 
 unfoldable pub runNumbers : Answer ℕ → List ℕ
 runNumbers = numbersOf (λ updates. updates ∷ [])
+
+-- the answer to a job: how many bytes are printed
+unfoldable pub jobNumbers : Answer (List ℕ) → List ℕ
+jobNumbers = numbersOf (λ text. length text ∷ [])
 
 -- The tally's answer, and the sum that it has afterwards: "the tally, which is no result store, keeps its old sum".
 unfoldable pub tallyNumbers : ℕ → Answer ℕ → List ℕ

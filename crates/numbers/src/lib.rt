@@ -9,7 +9,9 @@ mod refusals;
 mod telling;
 
 pub use counting::count_numbers;
+pub use laying::put;
 pub use laying::put_bytes;
+pub use laying::put_refusal;
 pub use reading::counts_from;
 pub use reading::extent_from;
 pub use refusals::NumberAndStep;

@@ -4,6 +4,7 @@ ghost use Prim.Native.Nat.{_≤_, _<_};
 ghost use lib.ListN.{length, getD};
 ghost use Rattle.run_stretch.specs.Stretches.{UpTo};
 
+mod gather;
 mod stretch;
 mod work;
 

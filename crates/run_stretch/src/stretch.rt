@@ -7,8 +7,9 @@ ghost use lib.ListN.{length, getD};
 ghost use Rattle.lists.specs.Functions.{all};
 ghost use Rattle.foundation.specs.Numbers.{isZero, finite};
 ghost use Rattle.run_slots.specs.Flags.{flagged};
-ghost use Rattle.run_stretch.specs.Stretches.{reducedAll, gathered, Below};
+ghost use Rattle.run_stretch.specs.Stretches.{reducedAll, gathered};
 ghost use Rattle.run_stretch.specs.Crossing.{Crossing};
+use crate::gather::reduce_gathered;
 
 // m times the stretch w is taken off the stretch y, where w is not zero.
 pub fn reduce_stretch(y: &mut [f64], w: &[f64], m: f64, flag: usize) -> usize
@@ -19,30 +20,6 @@ pub fn reduce_stretch(y: &mut [f64], w: &[f64], m: f64, flag: usize) -> usize
     let mut q = 0;
     while q < y.len() {
         let u = w[q];
-        let old = y[q];
-        let mut new = old - m * u;
-        if u == 0.0 {
-            new = old;
-        }
-        y[q] = new;
-        if new - new != 0.0 {
-            bad = 1;
-        }
-        q += 1;
-    }
-    bad
-}
-
-// The same where the stretch has other subscripts: what is taken off is gathered from a work store.
-pub fn reduce_gathered(y: &mut [f64], subs: &[usize], dense: &[f64], m: f64, flag: usize) -> usize
-    requires { ⌜ (length (now y) ≡ length (now subs)) × (isZero m ≡ false) × Below (length (now dense)) (now subs) ⌝ }
-    ensures { λ r. ⌜ (now (y .exit) ≡ reducedAll m (gathered (now (dense .entry)) (now (subs .entry))) (now (y .entry))) × (r ≡ flagged flag (all finite (now (y .exit)))) ⌝ }
-{
-    let mut bad = flag;
-    let mut q = 0;
-    while q < y.len() {
-        let x = subs[q];
-        let u = dense[x];
         let old = y[q];
         let mut new = old - m * u;
         if u == 0.0 {

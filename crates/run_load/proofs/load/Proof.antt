@@ -28,26 +28,11 @@ Inv-loop n starts columns values right l-subs l-starts l-slots u-subs u-starts u
 abbrev μ-loop : tie.MeasureT-loop
 μ-loop n starts columns values right l-subs l-starts l-slots u-subs u-starts u-slots l₀ u₀ d₀ x i₀ l u d i = n - i
 
--- Paths: TARGET-from-SOURCE leads from a place of the walk back to an earlier one. Made by tools/name_paths.py from the names of the two places.
-
-abbrev start-from-calling-copy-in : tie.After-copy-in-arg Inv-loop μ-loop → tie.Start Inv-loop μ-loop
-start-from-calling-copy-in c = c .before .before .before .before .before .before .before .before .before .before .before .before .before .before .before
-
-abbrev start-from-loop-end : tie.After-slice-known5 Inv-loop μ-loop → tie.Start Inv-loop μ-loop
-start-from-loop-end c = start-from-calling-copy-in (c .before .before .before)
-
-abbrev start-from-loop : tie.At-loop Inv-loop μ-loop → tie.Start Inv-loop μ-loop
-start-from-loop c = start-from-loop-end (c .before)
-
-abbrev in-loop-from-load-row : tie.After-load-row Inv-loop μ-loop → tie.In-loop Inv-loop μ-loop
-in-loop-from-load-row c = c .before .before .before .before .before .before .before .before
-
-abbrev in-loop-from-slice-known8 : tie.After-slice-known8 Inv-loop μ-loop → tie.In-loop Inv-loop μ-loop
-in-loop-from-slice-known8 c = in-loop-from-load-row (c .before .before .before .before .before .before)
-
 -- the row at hand
 abbrev entry : tie.In-loop Inv-loop μ-loop → tie.Start Inv-loop μ-loop
-entry c = start-from-loop (c .before)
+entry c =
+    c .before .before .before .before .before .before .before .before .before .before .before .before .before .before .before .before .before .before .before
+    .before
 
 line : (c : tie.In-loop Inv-loop μ-loop) → LineLends (entry c .args .starts .now) (entry c .args .columns .now) (entry c .args .values .now)
     (c .before .loop .i)
@@ -56,18 +41,17 @@ line c = line-lends _ _ _ (c .loop-test .taken) (c .before .loop .inv .3 (c .loo
 copy-in-requires : tie.Need-copy-in-requires Inv-loop μ-loop
 unfolding lent
 copy-in-requires c κs =
-    let p = start-from-calling-copy-in c .pre in le-of-eq
+    let p = c .before .before .before .before .before .before .before .before .before .before .before .before .before .before .before .pre in le-of-eq
     (p .right-size ∙ sym (p .x-size))
 
 loop-holds : tie.Need-loop-holds Inv-loop μ-loop
 unfolding lent
 loop-holds c =
-    let start = start-from-loop-end c in
-    let p = start
+    let p = c .before .before .before .before .before .before .before .before .before .before .before .before .before .before .before .before .before .before
     .pre in (
       least _,
       (refl, refl, refl),
-      start .good
+      c .before .before .before .before .before .before .before .before .before .before .before .before .before .before .before .before .before .before .good
           .1 .1 .0 .1,
       λ l.
           line-lies _ _ _ _ _ p _ l,
@@ -117,23 +101,22 @@ part-load-row-end-2 c = line (c .before .before .before) .in-values
 load-row-requires : tie.Need-load-row-requires Inv-loop μ-loop
 unfolding lent
 load-row-requires c κs =
-    let in-loop = c .before .before .before .before .before .before .before in
-    let b = in-loop .before in
-    let p = start-from-loop b .pre in
-    line-asks _ _ _ _ _ p (b .loop .i) (in-loop .loop-test .taken) _ _ _ (b .loop .inv .4 _ p)
+    let b = c .before .before .before .before .before .before .before .before in
+    let p = c .before .before .before .before .before .before .before .before .before .before .before .before .before .before .before .before .before .before
+    .before .before .before .before .before .before .before .before .before .pre in
+    line-asks _ _ _ _ _ p (b .loop .i) (c .before .before .before .before .before .before .before .loop-test .taken) _ _ _ (b .loop .inv .4 _ p)
 
 loop-less : tie.Need-loop-less Inv-loop μ-loop
-loop-less c = less _ _ (in-loop-from-slice-known8 c .loop-test .taken)
+loop-less c = less _ _ (c .before .before .before .before .before .before .before .before .before .before .before .before .before .before .loop-test .taken)
 
 loop-again : tie.Need-loop-again Inv-loop μ-loop
 unfolding lent
 loop-again c =
-    let at-load-row = c .before .before .before .before .before .before in
-    let in-loop = in-loop-from-load-row at-load-row in
-    let b = in-loop .before in
-    let k = at-load-row .load-row .kept in
-    let p = start-from-loop b .pre in (
-      next-le _ _ (in-loop .loop-test .taken),
+    let b = c .before .before .before .before .before .before .before .before .before .before .before .before .before .before .before in
+    let k = c .before .before .before .before .before .before .load-row .kept in
+    let p = c .before .before .before .before .before .before .before .before .before .before .before .before .before .before .before .before .before .before
+    .before .before .before .before .before .before .before .before .before .before .before .before .before .before .before .before .pre in (
+      next-le _ _ (c .before .before .before .before .before .before .before .before .before .before .before .before .before .before .loop-test .taken),
       (
         k .1 .1 .1 .1 .1 .1 .1 .1 .1 .0 ∙ b .loop .inv .1 .0,
         k .1 .1 .1 .1 .1 .1 .1 .1 .1 .1 .0 ∙ b .loop .inv .1 .1,
@@ -143,8 +126,8 @@ loop-again c =
       λ l. line-lies _ _ _ _ _ p _ l,
       λ x w.
           line-leaves _ _ _ _ _ w (b .loop .i)
-          (in-loop .loop-test .taken) _ _ _ _ _ _
-          (b .loop .inv .4 x w) (at-load-row .load-row .ensures),
+          (c .before .before .before .before .before .before .before .before .before .before .before .before .before .before .loop-test .taken) _ _ _ _ _ _
+          (b .loop .inv .4 x w) (c .before .before .before .before .before .before .load-row .ensures),
     )
 
 same-length : tie.Need-same-length Inv-loop μ-loop
@@ -161,11 +144,9 @@ same-length-4 c = c .before .before .before .before .copy-in .kept .0
 
 returns : tie.Need-returns Inv-loop μ-loop
 unfolding lent
-returns c =
-    let at-loop = c .before in
-    λ w.
+returns c = λ w.
     let b = c .before in
-    let copied = at-loop .before .before .before .copy-in in
+    let copied = c .before .before .before .before .copy-in in
     all-end _ _ _ _ _ w (b .loop .i) _ _ _ _ (c .loop-test .left) (b .loop .inv .0) (b .loop .inv .4 _ w) (copied-whole _ _ (copied .kept .0 ∙ w .x-size ∙
     sym (w .right-size)) (copied .ensures))
 

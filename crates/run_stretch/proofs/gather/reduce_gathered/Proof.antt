@@ -10,8 +10,8 @@ use Rattle.foundation.proofs.FloatSteps.{reduced-zero}
 use Rattle.run_stretch.specs.Stretches.{gathered}
 use Rattle.run_slots.proofs.Flags.{flag-set, flag-left}
 use Rattle.run_stretch.proofs.Reducing.{Reducing, reducing-start, reducing-turn, reducing-end, taken-off, length-gathered, gathered-at, below-at}
-use Rattle.run_stretch.proofs.stretch.reduce_gathered.Statement.{statement}
-use Rattle.run_stretch.proofs.stretch.reduce_gathered.Tie as tie
+use Rattle.run_stretch.proofs.gather.reduce_gathered.Statement.{statement}
+use Rattle.run_stretch.proofs.gather.reduce_gathered.Tie as tie
 
 abbrev Inv-loop : tie.InvT-loop
 Inv-loop y₀ subs dense m flag bad₀ q₀ y bad q =
