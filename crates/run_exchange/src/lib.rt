@@ -37,7 +37,8 @@ pub fn exchange(
     let column = list_place(l_starts, l_slots, k);
     let cell = column.from.0 + place;
     let p = l_subs[cell];
-    let at = column.slot.0 + place;
+    let begin = column.slot.0;
+    let at = begin + place;
     swap(d, k - 1, l, SlotPlace(at));
     let row = list_place(u_starts, u_slots, k);
     let from = row.from.0;

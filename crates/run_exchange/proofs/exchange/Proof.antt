@@ -22,10 +22,10 @@ abbrev start-from-reading-p : tie.After-shared-slice-known7 → tie.Start
 start-from-reading-p c = start-from-making-cell (c .before)
 
 abbrev start-from-making-swap : tie.After-swap-arg → tie.Start
-start-from-making-swap c = start-from-reading-p (c .before .before)
+start-from-making-swap c = start-from-reading-p (c .before)
 
 abbrev list-place-from-swap : tie.After-swap → tie.After-list-place
-list-place-from-swap c = c .before .before .before .before .before .before
+list-place-from-swap c = c .before .before .before .before .before
 
 abbrev start-from-calling-list-place2 : tie.After-slice-known6 → tie.Start
 start-from-calling-list-place2 c = start-from-list-place (list-place-from-swap (c .before .before .before .before))
@@ -99,20 +99,21 @@ shared-slice-read-p c =
     let w = start-from-reading-p c .pre in
     cell-in _ _ _ _ w _ _ _ _ (c .before .before .list-place .ensures)
 
+-- The slot of column k: by arithmetic, so that code with a slot of an earlier column here asks the same and is refused since column k is not exchanged.
 add-at : tie.Need-add-at
 add-at c =
-    let at-list-place = c .before .before .before in
+    let at-list-place = c .before .before in
     let start = start-from-list-place at-list-place in
-    below-fits (slot-in _ _ _ _ (start .pre) _ _ _ _ (at-list-place .list-place .ensures)) (start .good .1 .1 .1 .1 .1 .1 .1 .1 .0 .1)
+    omega (arith, slot-in _ _ _ _ (start .pre) _ _ _ _ (at-list-place .list-place .ensures), start .good .1 .1 .1 .1 .1 .1 .1 .1 .0 .1)
 
 sub-swap : tie.Need-sub-swap
 sub-swap c = start-from-making-swap c .pre .low
 
 swap-requires : tie.Need-swap-requires
 swap-requires c κs =
-    let at-list-place = c .before .before .before .before .before in
+    let at-list-place = c .before .before .before .before in
     let w = start-from-list-place at-list-place .pre in
-    (diagonal-in _ _ _ _ w, slot-in _ _ _ _ w _ _ _ _ (at-list-place .list-place .ensures))
+    (diagonal-in _ _ _ _ w, omega (arith, slot-in _ _ _ _ w _ _ _ _ (at-list-place .list-place .ensures)))
 
 list-place-requires-2 : tie.Need-list-place-requires-2
 list-place-requires-2 c κs =

@@ -3,6 +3,7 @@
 use mathlib.Core.Path.{refl, sym, ap, _∙_}
 use Prim.Native.Nat.{ℕ, _≤_, zero-le}
 use native.Mathlib.Nat.{le-refl, le-trans, le-antisymm, sub-le}
+use native.Mathlib.Omega.{arith}
 use lib.ListN.{replicate}
 use borrow.Author.Count.{falls-down}
 use borrow.Author.Needs.{scaled-fits}
@@ -69,11 +70,12 @@ mul-column c = scaled-fits _ _ _ (place (c .before) .in-columns) (start-from-rea
 shared-slice-read-column : tie.Need-shared-slice-read-column Inv-loop μ-loop
 shared-slice-read-column c = place (c .before .before) .in-columns
 
+-- The chain: by arithmetic, so that code with another step's chain here asks the same and is refused by the loop's invariant.
 push-requires : tie.Need-push-requires Inv-loop μ-loop
 push-requires c κs =
     let in-loop = c .before .before .before .before in
     let i = in-loop .before .loop .inv in
-    (below-size (place in-loop .column-high) (i .2 .heads-size), below-size (i .0) (i .2 .links-size))
+    (omega (arith, place in-loop .column-high, in-loop .loop-test .taken, i .0, i .2 .heads-size), below-size (i .0) (i .2 .links-size))
 
 sub-i : tie.Need-sub-i Inv-loop μ-loop
 sub-i c = in-loop-from-making-i c .loop-test .taken
