@@ -4,9 +4,9 @@
   tools/cases_elimination.py DENSE_FOLDER
 
 DENSE_FOLDER holds the dense program of different authorship that document 01 asks for
-("other cases are executed and compared"): dense.py, and calls.py, which knows whole calls.
-Every expected answer and every place of every store comes from it. The files stdin and
-stdout of the crate are written anew; the seeds are fixed, so that they come out the same.
+(dense_program.py). Every expected answer and every place of every store comes from it. The
+files stdin and stdout of the crate are written anew; the seeds are fixed, so that they come
+out the same.
 
 A request: HEAD words of four bytes, then the lists of LISTS, numbers in two bytes, values
 and right side as the eight bytes of an f64; all low byte first.
@@ -17,7 +17,9 @@ import random
 import struct
 import sys
 
-from cases_planning import joined, joining, shared_with_earlier, strip_with_steps_between, together
+from cases_patterns import FIELDS, flat, joining, shape, shared_with_earlier, strip_with_steps_between, together
+from cases_steps import joined
+from dense_program import Dense
 
 HEAD = ["most", "n", "starts", "columns",
         "count_n", "count_entries", "count_l_subs", "count_u_subs", "count_l_slots", "count_u_slots", "count_reads",
@@ -53,8 +55,8 @@ def refusal(answer):
 
 
 class Cases:
-    def __init__(self, calls, dense):
-        self.calls, self.dense = calls, dense
+    def __init__(self, dense):
+        self.dense = dense
         self.bytes, self.lines, self.count = bytearray(), [], 0
         self.answers, self.steps = {}, {13: set(), 14: set()}
         self.finished = {(a, b): 0 for a in ("largest", "listed") for b in ("whole", "cut")}
@@ -72,9 +74,9 @@ class Cases:
         self.bytes += struct.pack(f"<{len(values)}d", *values) + struct.pack(f"<{len(right)}d", *right)
         fixed = [(work[name], n + 1) for name in WORK_NEXT] + [(work[name], n) for name in WORK_N]
         planning = [pair for name, pair in zip(WORK_NEXT + WORK_N, fixed) if name not in ("copy", "dense")]
-        held = self.calls.hold_call(most, n, starts, columns, counts, stores, planning)
+        held = self.dense.hold_call(most, n, starts, columns, counts, stores, planning)
         self.lines.append("verify agrees" if held[0] == "granted" else "verify " + refusal(held))
-        called = self.calls.run_call(most, n, starts, columns, counts, stores, fixed, values, right, listed, cut, lengths)
+        called = self.dense.run_call(most, n, starts, columns, counts, stores, fixed, values, right, listed, cut, lengths)
         if called.answer[0] == "granted":
             self.lines.append(f"run finished {called.answer[1]}")
             self.finished["largest" if listed is None else "listed", "whole" if cut is None else "cut"] += 1
@@ -93,12 +95,9 @@ class Cases:
     def run(self, rows, values, right, listed=None, cut=None, most=1024, more=None, bend=None, lent=None):
         """A run on the pattern's own plan. `more` gives lengths by name, `bend` changes the lent plan (counts, stores), `lent` the pattern (n, starts, columns)."""
         n = len(rows)
-        starts, columns = [0], []
-        for row in rows:
-            columns += row
-            starts.append(len(columns))
-        plan = self.dense.make_plan(n, {i: r for i, r in enumerate(rows, 1)})
-        counts, stores = list(self.calls.counts_of(plan)), self.calls.stores_of(plan)
+        starts, columns = flat(rows)
+        plan = self.dense.plan(rows)
+        counts, stores = self.dense.counts_of(plan), self.dense.stores_of(plan)
         lengths = {"l_slots": plan.l_side.slots(), "u_slots": plan.u_side.slots(), "diagonal": n, "solution": n, "pivots": n}
         work = {name: n + 1 for name in WORK_NEXT}
         work.update({name: n for name in WORK_N})
@@ -117,14 +116,9 @@ class Cases:
 
 # ------------------------------------------------------------------ patterns and values
 
-FIELDS = [[1, 3], [2, 4], [1, 3], [2, 3, 4]]
 FIELD_VALUES = [2.0, 1.0, 1.0, 1.0, 4.0, 4.0, 2.0, 1.0, 4.0]
 FIELD_RIGHT = [3.0, 2.0, 8.0, 7.0]
 SPECIAL = [0.0, -0.0, 5e-324, -5e-324, 2.2250738585072014e-308, 1e-310, 1e-200, 1e200, 1e300, -1e300, 1.7e308, 1.0, -1.0, 2.0, -2.0, 0.5, 3.0]
-
-
-def shape(n, has):
-    return [[j for j in range(1, n + 1) if j == i or has(i, j)] for i in range(1, n + 1)]
 
 
 def random_rows(rng, n, density):
@@ -229,7 +223,7 @@ def add_refused(cases, rng):
                 counts[at] += change
             cases.run(*plain, bend=count)
     for name in PLAN_STORES:
-        for at in range(len(cases.calls.stores_of(cases.dense.make_plan(4, dict(enumerate(FIELDS, 1))))[name])):
+        for at in range(len(cases.dense.stores_of(cases.dense.plan(FIELDS))[name])):
             def place(counts, stores):
                 stores[name][at] += 1
             cases.run(*plain, bend=place)
@@ -290,7 +284,7 @@ def list_to_follow(cases, rng, rows):
     """A row list with which a run finishes, other than the one by the largest entry: that of other values on the same pattern."""
     n = len(rows)
     values, right = numbers(rng, entries(rows), "plain"), numbers(rng, n, "plain")
-    return cases.dense.run_square(n, {i: r for i, r in enumerate(rows, 1)}, values, right)[2]
+    return cases.dense.pivot_rows(rows, values, right)
 
 
 def move(numbers, at, change):
@@ -350,7 +344,7 @@ def add_joined(cases, rng):
     while min(count.values()) < TIMES:
         for make in (strip_with_steps_between, shared_with_earlier, joining):
             rows = make(rng)
-            wanted = [found for found in joined(cases, rows) if count[found.sides] < TIMES]
+            wanted = [found for found in joined(cases.dense, rows) if count[found.sides] < TIMES]
             if wanted:
                 agreed_with(cases, rng, rows, wanted[0].step, turn)
                 turn += 1
@@ -378,10 +372,7 @@ def add_together(cases, rng):
 def main():
     if len(sys.argv) != 2:
         raise SystemExit(__doc__)
-    sys.path.insert(0, sys.argv[1])
-    import calls
-    import dense
-    rng, cases = random.Random(19841984), Cases(calls, dense)
+    rng, cases = random.Random(19841984), Cases(Dense(sys.argv[1]))
     add_named(cases, rng)
     add_refused(cases, rng)
     add_random(cases, rng)

@@ -1,12 +1,12 @@
 #!/usr/bin/env python3
 """Writes the jobs and the expected answers of the program crates/cases_job.
 
-  tools/cases_job.py DENSE.PY
+  tools/cases_job.py DENSE_FOLDER
 
-DENSE.PY is the dense program of different authorship that document 01 asks for
-("other cases are executed and compared"). Every expected byte comes from it. The
-files stdin and stdout of the crate are written anew; the seed is fixed, so that
-they come out the same each time.
+DENSE_FOLDER holds the dense program of different authorship that document 01 asks
+for (dense_program.py). Every expected byte comes from it. The files stdin and stdout
+of the crate are written anew; the seed is fixed, so that they come out the same each
+time.
 
 stdin holds for each job its length, two bytes, low byte first, and its bytes.
 stdout holds for each job a line with its number, then the answer.
@@ -16,8 +16,9 @@ import random
 import struct
 import sys
 
+from cases_patterns import FIELDS, chained, fixed_shapes, grid, shape, sparse
+from dense_program import Dense
 from job_bytes import Fields, Row, bits_of, write
-from cases_planning import FIELDS, chained, fixed_shapes, grid, load, shape, sparse
 
 FOLDER = os.path.join(os.path.dirname(os.path.abspath(__file__)), "..", "crates", "cases_job")
 REACHABLE = [1, 3, 4, 5, 7, 8] + list(range(10, 19))
@@ -256,10 +257,8 @@ def sized(cases, rows, rng, answer):
 
 
 def limits(cases, rng):
-    dense = cases.dense
-
     def used(rows):
-        plan = dense.make_plan(len(rows), dict(enumerate(rows, 1)))
+        plan = cases.dense.plan(rows)
         return len(plan.l_side.store), len(plan.u_side.store), plan.l_side.slots(), plan.u_side.slots()
 
     def with_subscripts(lower, side, wanted):
@@ -340,7 +339,7 @@ def recorded():
 def main():
     if len(sys.argv) != 2:
         raise SystemExit(__doc__)
-    cases, rng = Cases(load(sys.argv[1])), random.Random(8443)
+    cases, rng = Cases(Dense(sys.argv[1])), random.Random(8443)
     four_fields(cases)
     commands(cases)
     small(cases)

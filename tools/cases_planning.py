@@ -1,35 +1,30 @@
 #!/usr/bin/env python3
 """Writes the requests and the expected lines of the program crates/cases_planning.
 
-  tools/cases_planning.py DENSE.PY
+  tools/cases_planning.py DENSE_FOLDER
 
-DENSE.PY is the dense program of different authorship that document 01 asks for
-("other cases are executed and compared"). Every expected number comes from it;
-what is added here is refusal 6, which it does not know, and the layout of the
-lent stores. The files stdin and stdout of the crate are written anew; the seeds
-are fixed, so that they come out the same each time.
+DENSE_FOLDER holds the dense program of different authorship that document 01 asks
+for (dense_program.py). Every expected number comes from it; what is added here is
+the layout of the lent stores. The files stdin and stdout of the crate are written
+anew; the seeds are fixed, so that they come out the same each time.
 
 A request is words of two bytes, low byte first: most, n, the lengths of the row
 starts, the columns and the stores (STORES below, in that order), then the row
 starts and the columns.
 """
-import collections
-import importlib.util
 import os
 import random
 import struct
 import sys
 
+from cases_patterns import (FIELDS, chained, fixed_shapes, flat, grid, joining, near_strip, shape, shared_with_earlier, sparse, strip_with_steps_between,
+                            together)
+from cases_steps import joined, may_miss_end, store_sizes, ways
+from dense_program import Dense
+
 RESULTS = ["l_subs", "l_starts", "l_slots", "u_subs", "u_starts", "u_slots"]
 STORES = ["l_subs", "u_subs", "l_starts", "l_slots", "u_starts", "u_slots",
           "row_heads", "row_links", "set_heads", "set_links", "list", "spare"]
-
-
-def load(path):
-    spec = importlib.util.spec_from_file_location("dense", path)
-    dense = importlib.util.module_from_spec(spec)
-    spec.loader.exec_module(dense)
-    return dense
 
 
 class Cases:
@@ -50,29 +45,21 @@ class Cases:
 
     def expected(self, most, n, starts, columns, lengths):
         """The answer's line and the contents of each result store."""
-        dense = self.dense
-        stores = {name: [0] * lengths[name] for name in RESULTS}
-        try:
-            rows = dense.check_pattern(n, starts, columns, min(most, dense.MAX_N))
-            if any(lengths[name] != size for name, size in self.right_lengths(n).items()):
-                raise dense.Refused(6)
-            plan = dense.make_plan(n, rows, lengths["l_subs"], lengths["u_subs"])
-        except dense.Refused as refusal:
-            self.answers[refusal.number] = self.answers.get(refusal.number, 0) + 1
-            if refusal.number in self.steps:
-                self.steps[refusal.number].add(refusal.step)
-            return f"refused {refusal.number} {refusal.step}", stores
-        self.answers[0] = self.answers.get(0, 0) + 1
-        for letter, side in (("l", plan.l_side), ("u", plan.u_side)):
-            stores[letter + "_subs"][:len(side.store)] = side.store
-            stores[letter + "_starts"] = [side.start[k] for k in range(1, n + 1)]
-            sums = [0]
-            for k in range(1, n + 1):
-                sums.append(sums[-1] + len(side.kept[k]))
-            stores[letter + "_slots"] = sums
-        line = (f"plan {n} {plan.entries} {len(plan.l_side.store)} {len(plan.u_side.store)} "
-                f"{plan.l_side.slots()} {plan.u_side.slots()} {plan.reads}")
-        return line, stores
+        results = {name: lengths[name] for name in RESULTS}
+        work = [(lengths[name], size) for name, size in self.right_lengths(n).items() if name not in RESULTS]
+        called = self.dense.plan_call(most, n, starts, columns, results, work)
+        return self.noted(called.answer), called.stores
+
+    def noted(self, answer):
+        """The answer's line; what it covers is noted."""
+        if answer[0] == "granted":
+            self.answers[0] = self.answers.get(0, 0) + 1
+            return " ".join(map(str, ["plan", *answer[1]]))
+        _, number, step = answer
+        self.answers[number] = self.answers.get(number, 0) + 1
+        if number in self.steps:
+            self.steps[number].add(step)
+        return f"refused {number} {step}"
 
     # ---- cases
 
@@ -91,7 +78,7 @@ class Cases:
 
     def rooms(self, rows):
         """How many subscripts each side of a plan takes."""
-        plan = self.dense.make_plan(len(rows), {i: r for i, r in enumerate(rows, 1)})
+        plan = self.dense.plan(rows)
         return len(plan.l_side.store), len(plan.u_side.store)
 
     def plan(self, rows, l_more=0, u_more=0, most=1024, **other):
@@ -99,85 +86,6 @@ class Cases:
         l_room, u_room = self.rooms(rows)
         starts, columns = flat(rows)
         return self.raw(most, len(rows), starts, columns, max(0, l_room + l_more), max(0, u_room + u_more), **other)
-
-
-def flat(rows):
-    starts, columns = [0], []
-    for row in rows:
-        columns += row
-        starts.append(len(columns))
-    return starts, columns
-
-
-# ------------------------------------------------------------------ shapes
-
-def shape(n, has):
-    """The rows of the pattern with the places (i, j) for which `has` holds, and the diagonal."""
-    return [[j for j in range(1, n + 1) if j == i or has(i, j)] for i in range(1, n + 1)]
-
-
-FIELDS = [[1, 3], [2, 4], [1, 3], [2, 3, 4]]
-
-
-def fixed_shapes(n):
-    """The shapes that have a name, for one n."""
-    half = n // 2
-    yield shape(n, lambda i, j: False)                                  # diagonal
-    yield shape(n, lambda i, j: True)                                   # dense
-    yield shape(n, lambda i, j: i == 1 or j == 1)                       # arrow heads, four ways
-    yield shape(n, lambda i, j: i == n or j == n)
-    yield shape(n, lambda i, j: i == 1 or j == n)
-    yield shape(n, lambda i, j: i == n or j == 1)
-    yield shape(n, lambda i, j: j == 1)
-    yield shape(n, lambda i, j: i == n)
-    yield shape(n, lambda i, j: abs(i - j) == 1)                        # strips
-    yield shape(n, lambda i, j: -2 <= i - j <= 1)
-    yield shape(n, lambda i, j: j - i in (-3, 2))
-    yield shape(n, lambda i, j: j < i)                                  # triangles
-    yield shape(n, lambda i, j: j > i)
-    yield shape(n, lambda i, j: j <= i + 1)
-    yield shape(n, lambda i, j: j >= i - 1)
-    yield shape(n, lambda i, j: j == i + 1)                             # chains
-    yield shape(n, lambda i, j: j == i - 1)
-    yield shape(n, lambda i, j: j == i % n + 1)
-    yield shape(n, lambda i, j: i == j % n + 1)
-    yield shape(n, lambda i, j: (i == n and j == 1) or j == i + 1)
-    yield shape(n, lambda i, j: i + j == n + 1)                         # crossing diagonals
-    yield shape(n, lambda i, j: (i - 1) // 3 == (j - 1) // 3)           # blocks
-    yield shape(n, lambda i, j: (i <= half) != (j <= half))
-    yield shape(n, lambda i, j: (i - 1) // 3 == (j - 1) // 3 or j > n - 2)
-    yield shape(n, lambda i, j: abs((i - 1) // 3 - (j - 1) // 3) <= 1)
-    yield shape(n, lambda i, j: j == (i + half - 1) % n + 1 or j == 1)
-
-
-def grid(side):
-    """The five-point pattern of a square of side by side fields."""
-    def has(i, j):
-        a, b = divmod(i - 1, side)
-        c, d = divmod(j - 1, side)
-        return abs(a - c) + abs(b - d) == 1
-    return shape(side * side, has)
-
-
-def sparse(rng, n, more, reach=None):
-    """The diagonal and `more` random places, within `reach` of it if that is given."""
-    rows = [{i} for i in range(1, n + 1)]
-    for _ in range(more):
-        i = rng.randint(1, n)
-        low, high = (1, n) if reach is None else (max(1, i - reach), min(n, i + reach))
-        rows[i - 1].add(rng.randint(low, high))
-    return [sorted(row) for row in rows]
-
-
-def chained(rng, n):
-    """Rows that are met early, so that many steps stand alone in their set S."""
-    rows = []
-    for i in range(1, n + 1):
-        row = {i, max(1, i - rng.randint(1, 3))}
-        if rng.random() < 0.5:
-            row.add(rng.randint(i, n))
-        rows.append(sorted(row))
-    return rows
 
 
 # ------------------------------------------------------- groups of requests
@@ -211,113 +119,6 @@ def planned(cases, rng):
         cases.plan(sparse(rng, 300, more, reach))
 
 
-Joined = collections.namedtuple("Joined", "step sides")
-
-
-def store_sizes(plan, side):
-    """How long a side's store is after each number of steps."""
-    sizes = [0]
-    for k in range(1, plan.n + 1):
-        sizes.append(max(sizes[-1], side.start[k] + len(side.kept[k])))
-    return sizes
-
-
-def place_in(members, more):
-    """How a second list lies to a first: it adds nothing, adds behind the last member, or adds before the first or between two members too."""
-    if all(x in members for x in more):
-        return "nothing"
-    least = min(x for x in more if x not in members)
-    if least > max(members, default=0):
-        return "behind"
-    return "before" if least < members[0] else "between"
-
-
-def joined(cases, rows):
-    """The steps at which one row joins the list of the step before. For L, then for U: "end" if that list does not end its store, else how
-    the row (L) or its columns (U) lie to it. To L the step's own row adds nothing, any other row adds itself."""
-    n = len(rows)
-    plan = cases.dense.make_plan(n, {i: r for i, r in enumerate(rows, 1)})
-    first_met, steps = ([[] for _ in range(n + 2)] for _ in "rs")
-    for i, row in enumerate(rows, 1):
-        first_met[row[0]].append(i)
-    for k in range(1, n + 1):
-        if plan.l_side.kept[k]:
-            steps[plan.u_side.kept[k][0]].append(k)
-    used = {side: store_sizes(plan, side) for side in (plan.l_side, plan.u_side)}
-    found = []
-    for k in range(2, n + 1):
-        if len(first_met[k]) != 1 or steps[k] != [k - 1]:
-            continue
-        row = first_met[k][0]
-        sides = []
-        for side, more in ((plan.l_side, [row]), (plan.u_side, rows[row - 1])):
-            if side.start[k - 1] + len(side.kept[k - 1]) != used[side][k - 1]:
-                sides.append("end")
-            else:
-                sides.append(place_in([x for x in side.kept[k - 1] if x != k], [x for x in more if x != k]))
-        found.append(Joined(k, tuple(sides)))
-    return found
-
-
-def ways(cases, rows):
-    """For each step at which one row joins the list of the step before: whether it only adds behind it on both sides ("behind"), or what
-    stands against that: the list of a side does not end its store ("end"), the row lies between ("row"), a column is no member ("column")."""
-    found = set()
-    for _, (lower, upper) in joined(cases, rows):
-        if "end" in (lower, upper):
-            found.add("end")
-        elif lower in ("before", "between"):
-            found.add("row")
-        elif upper in ("before", "between"):
-            found.add("column")
-        else:
-            found.add("behind")
-    return found
-
-
-def may_miss_end(n, bits):
-    """Whether `ways` can find "end" for rows that are given as bits. A list that does not end its store was shared with a sole step other
-    than the one just before it, or with such a list. Few patterns have that, and `ways` takes ten times as long."""
-    first_met = [0] * (n + 2)
-    lower, upper, sets = [0] * (n + 2), [0] * (n + 2), [[] for _ in range(n + 2)]
-    for i, row in enumerate(bits, 1):
-        k = (row & -row).bit_length() - 1
-        first_met[k] += 1
-        lower[k] |= 1 << i
-        upper[k] |= row
-    apart = [False] * (n + 2)
-    for k in range(1, n + 1):
-        above = -1 << k
-        for l in sets[k]:
-            lower[k] |= lower[l] & above
-            upper[k] |= upper[l] & above
-        if len(sets[k]) == 1:
-            l = sets[k][0]
-            if first_met[k] == 0:
-                apart[k] = l != k - 1 or apart[l]
-            elif first_met[k] == 1 and l == k - 1 and apart[l]:
-                return True
-        if lower[k] & (lower[k] - 1):
-            rest = upper[k] & (-2 << k)
-            sets[(rest & -rest).bit_length() - 1].append(k)
-    return False
-
-
-def near_strip(rng):
-    """A random strip around the diagonal with up to four places changed: how many rows, and each row as bits."""
-    n = rng.randint(4, 30)
-    bits = []
-    for i in range(1, n + 1):
-        low, high = max(1, i - rng.randint(0, 3)), min(n, i + rng.randint(0, 4))
-        bits.append((2 << high) - (1 << low))
-    for _ in range(rng.randint(0, 4)):
-        i = rng.randint(1, n)
-        j = rng.randint(1, n)
-        if i != j:
-            bits[i - 1] ^= 1 << j
-    return n, bits
-
-
 def short_ways(cases, rng):
     """Patterns at which a row joins the list of the step before: it only adds behind it, or something stands against that."""
     count = {"behind": 0, "end": 0, "row": 0, "column": 0}
@@ -331,7 +132,7 @@ def short_ways(cases, rng):
         if all(count[way] >= 30 for way in ("behind", "row", "column")) and not may_miss_end(n, bits):
             continue
         rows = [[j for j in range(1, n + 1) if row >> j & 1] for row in bits]
-        found = ways(cases, rows)
+        found = ways(cases.dense, rows)
         if any(count[way] < 30 for way in found):
             for way in found:
                 count[way] += 1
@@ -340,54 +141,11 @@ def short_ways(cases, rng):
     return count
 
 
-def lying(rng, n, step, i, have, kind):
-    """Row i, first met at the step, so that it lies to the list `have` as `kind` says; none if its diagonal stands against that."""
-    inside = i == step or i in have
-    some = [x for x in have if rng.random() < 0.4]
-    first, last = have[0], have[-1]
-    if kind == "behind":
-        if last == n or not (inside or i > last):
-            return None
-        return sorted({step, i, rng.randint(last + 1, n), *some})
-    if not inside:
-        return None
-    if kind == "inside":
-        return sorted({step, i, *some})
-    if kind == "equal":
-        return [step] + have
-    if kind == "beginning":
-        least = have.index(i) + 1 if i in have else 0
-        return [step] + have[:rng.randrange(least, len(have))] if least < len(have) else None
-    gaps = [x for x in (range(step + 1, first) if kind == "before" else range(first, last)) if x not in have]
-    return sorted({step, i, rng.choice(gaps), *some}) if gaps else None
-
-
-def together(rng, n, step, kinds, handed):
-    """Many rows first met at one step, that of the step first. Each next one lies to the list so far as the next of `kinds` says; the others
-    are first met at their own step. If `handed`, earlier steps hand lists on to this one."""
-    rows = [[i] if rng.random() < 0.6 else sorted({i, rng.randint(i, n)}) for i in range(1, n + 1)]
-    open_rows = n
-    for l in range(1, step if handed else 1):
-        rows[l - 1] = sorted({l, step, rng.randint(step, n)})
-        rows[open_rows - 1] = sorted({l, step, open_rows})
-        open_rows -= 1
-    have = [x for x in range(step + 1, n + 1) if min(step + 3, n - 1) <= x <= n - n // 4 and rng.random() < 0.6] or [n]
-    rows[step - 1] = [step] + have
-    turn = 0
-    for i in range(step + 1, open_rows + 1):
-        row = lying(rng, n, step, i, have, kinds[turn % len(kinds)])
-        if row is not None:
-            rows[i - 1] = row
-            have = sorted({*have, *row} - {step})
-            turn += 1
-    return rows
-
-
 def short_at(cases, rows, step):
     """Rooms that end with one step: exactly enough for it, and one short for a side to which it adds."""
     n = len(rows)
     starts, columns = flat(rows)
-    plan = cases.dense.make_plan(n, {i: r for i, r in enumerate(rows, 1)})
+    plan = cases.dense.plan(rows)
     lower, upper = store_sizes(plan, plan.l_side), store_sizes(plan, plan.u_side)
     cases.raw(1024, n, starts, columns, lower[step], upper[step])
     if lower[step - 1] < lower[step]:
@@ -430,60 +188,6 @@ def met_together(cases, rng):
     return cases.count - before
 
 
-def strip_with_steps_between(rng):
-    """A strip of random rows, some of which begin late: steps without a row of their own follow others, and rows lie anywhere to the lists."""
-    n = rng.randint(5, 16)
-    rows = []
-    for i in range(1, n + 1):
-        row = {i, max(1, i - rng.choice((0, 1, 2, 3, 4, 5)))}
-        row |= {j for j in range(min(row), min(n, i + 5) + 1) if rng.random() < 0.35}
-        rows.append(sorted(row))
-    return rows
-
-
-def shared_with_earlier(rng):
-    """Step k-1 follows step 1 without a row of its own, and steps between the two add to a store or to both; one row is first met at k."""
-    k = rng.randint(4, 7)
-    n = k + rng.randint(2, 8)
-    rows = [{i} for i in range(1, n + 1)]
-    later = range(k, n + 1)
-    rows[0] |= {k - 1, k, *rng.sample(later, rng.randint(1, 2))}
-    rows[k - 2] |= {1}
-    free = list(later)
-    rng.shuffle(free)
-    for _ in range(rng.randint(1, 3)):
-        if len(free) > 2:
-            rows[free.pop() - 1] |= {1, k}
-    row = free.pop()
-    rows[row - 1] |= {k, *rng.sample(later, rng.randint(0, 2))}
-    for j in range(2, k - 1):
-        if rng.random() < 0.6:
-            rows[j - 1].add(rng.randint(k + 1, n))
-        if free and rng.random() < 0.5:
-            rows[free.pop() - 1] |= {j, rng.randint(k + 1, n)}
-    for i in later:                                     # no other row is first met at k-1 or k
-        if min(rows[i - 1]) >= k - 1 and i != row:
-            rows[i - 1] = {x for x in rows[i - 1] if x > k} | {i}
-    return [sorted(x) for x in rows]
-
-
-def joining(rng):
-    """Some rows are first met at step k-1, and one at k that may lie anywhere to them; no other row has a column up to k."""
-    k = rng.randint(2, 4)
-    n = k + rng.randint(1, 8)
-    later = range(k + 1, n + 1)
-    rows = [{i} for i in range(1, n + 1)]
-    wide = set(rng.sample(later, rng.randint(0, len(later))))
-    rows[k - 2] |= {k} | wide
-    single = k if rng.random() < 0.4 else rng.choice(later)
-    for i in range(k, n + 1):
-        if i == single:
-            rows[i - 1] |= {k} | {x for x in later if rng.random() < 0.3}
-        elif i == k or rng.random() < 0.5:
-            rows[i - 1] |= {k - 1} | {x for x in wide if rng.random() < 0.3}
-    return [sorted(row) for row in rows]
-
-
 def side_by_side(cases, rng):
     """Patterns at which one row joins the list of the step before, for every pair of what it is to L and to U: with enough room, and with
     rooms that end at that step."""
@@ -492,7 +196,7 @@ def side_by_side(cases, rng):
     while min(count.values()) < 5:
         for make in (strip_with_steps_between, shared_with_earlier, joining):
             rows = make(rng)
-            found = joined(cases, rows)
+            found = joined(cases.dense, rows)
             if any(count[step.sides] < 5 for step in found):
                 cases.plan(rows)
             for step in found:
@@ -639,7 +343,7 @@ def orders(cases, rng):
         if l_room == 0 or u_room == 0:
             continue
         l_lent, u_lent = rng.randrange(l_room), rng.randrange(u_room)
-        seven, eight = step_of(cases, rows, l_lent, u_room), step_of(cases, rows, l_room, u_lent)
+        seven, eight = cases.dense.refused_at(rows, l_lent, u_room), cases.dense.refused_at(rows, l_room, u_lent)
         kind = "8 first" if eight < seven else "7 first" if seven < eight else "same step"
         if found[kind] < 8:
             found[kind] += 1
@@ -647,18 +351,10 @@ def orders(cases, rng):
             assert line == (f"refused 8 {eight}" if kind == "8 first" else f"refused 7 {seven}")
 
 
-def step_of(cases, rows, l_lent, u_lent):
-    try:
-        cases.dense.make_plan(len(rows), {i: r for i, r in enumerate(rows, 1)}, l_lent, u_lent)
-    except cases.dense.Refused as refusal:
-        return refusal.step
-    raise AssertionError("the rooms were to be too small")
-
-
 def main():
     if len(sys.argv) != 2:
         raise SystemExit(__doc__)
-    cases, rng = Cases(load(sys.argv[1])), random.Random(8443)
+    cases, rng = Cases(Dense(sys.argv[1])), random.Random(8443)
     planned(cases, rng)
     large(cases, rng)
     refused_1_to_5(cases)

@@ -1,0 +1,70 @@
+"""The dense program of different authorship that document 01 asks for ("other cases are executed and compared"), as the tools that write the cases ask it.
+
+It is a folder with now.py, which knows whole calls by documents 01 and 02, and what now.py imports. LANDED says which requests of document 02 have landed.
+"""
+import collections
+import os
+import sys
+
+LANDED = {"share_end": False, "faint": False, "tall": False}
+Called = collections.namedtuple("Called", "answer stores")
+
+
+class Dense:
+    """Calls, plans and reports by the rules that are in. Without ticket 9 the row count is n, and the library's counts leave it out: they are seven."""
+
+    def __init__(self, folder):
+        if os.path.abspath(folder) not in sys.path:
+            sys.path.insert(0, os.path.abspath(folder))
+        import now
+        self.now, self.rules = now, now.Rules(**LANDED)
+
+    # ---- plans of patterns that pass 1 to 5, given by their rows
+
+    def plan(self, rows, l_room=None, u_room=None):
+        return self.now.make_plan(len(rows), len(rows), numbered(rows), self.rules, l_room, u_room)
+
+    def refused_at(self, rows, l_room, u_room):
+        """The step at which a plan does not fit."""
+        try:
+            self.plan(rows, l_room, u_room)
+        except self.now.Refused as refusal:
+            return refusal.step
+        raise AssertionError("the rooms were to be too small")
+
+    def counts_of(self, plan):
+        return without_rows(self.now.counts_of(plan))
+
+    def stores_of(self, plan):
+        return self.now.stores_of(plan)
+
+    def pivot_rows(self, rows, values, right):
+        """The row list of a run by the largest entry."""
+        return self.now.run_full(len(rows), len(rows), numbered(rows), values, right, None, None, self.rules)[2]
+
+    # ---- whole calls
+
+    def plan_call(self, most, n, starts, columns, lengths, work):
+        answer, stores = self.now.plan_call(most, n, n, starts, columns, lengths, work, self.rules)
+        return Called(("granted", without_rows(answer[1])) if answer[0] == "granted" else answer, stores)
+
+    def hold_call(self, most, n, starts, columns, counts, stores, work):
+        return self.now.hold_call(most, n, n, starts, columns, with_rows(counts, n), stores, work, self.rules)
+
+    def run_call(self, most, n, starts, columns, counts, stores, work, values, right, listed, cut, lengths):
+        return self.now.run_call(most, n, n, starts, columns, with_rows(counts, n), stores, work, values, right, listed, cut, lengths, self.rules)
+
+    def report(self, job):
+        return self.now.report(job, self.rules)
+
+
+def numbered(rows):
+    return dict(enumerate(rows, 1))
+
+
+def without_rows(counts):
+    return [counts[0], *counts[2:]]
+
+
+def with_rows(counts, rows):
+    return [counts[0], rows, *counts[1:]]
