@@ -47,6 +47,8 @@ static const struct job table_jobs[] = {
     {"dense 32", 0, DENSE, 32, 0, 0, 1},
     {"dense 64", 0, DENSE, 64, 0, 0, 0},
     {"dense 128", 0, DENSE, 128, 0, 0, 0},
+    {"never shared, 128", 0, UNSHARED, 128, 0, 0, 1},
+    {"never shared, 1,024", 0, UNSHARED, 1024, 0, 0, 0},
 };
 
 static const struct job growth_jobs[] = {

@@ -9,6 +9,7 @@
 #define STRIP_HEIGHT 6000 /* a survey's strip in thousandths of the mean distance of fields */
 #define NEAR 4
 #define FIELDS_A_LONG_TIE 64
+#define TAIL 16 /* the last fields, of which all others use all but one */
 
 void *room(size_t count, size_t size)
 {
@@ -96,6 +97,16 @@ static void mark_arrow(struct marks m, size_t full)
         tie(m, i, full);
 }
 
+/* Lists of U that share nothing, though each differs from the end of its store in the last but one subscript alone: even and odd fields leave
+   out another of the last fields. So planning compares nearly all of every list, and then writes it. */
+static void mark_unshared(struct marks m)
+{
+    for (size_t i = 0; i + TAIL < m.n; i++)
+        for (size_t j = m.n - TAIL; j < m.n; j++)
+            if (j != m.n - 2 - i % 2)
+                mark(m, i, j);
+}
+
 struct field {
     int64_t along, across;
 };
@@ -159,6 +170,7 @@ static void mark_all(struct marks m, enum kind kind, size_t size, size_t width)
     case ARROW_LAST: mark_arrow(m, m.n - 1); break;
     case ARROW_FIRST: mark_arrow(m, 0); break;
     case DENSE: memset(m.at, 1, m.n * m.n); break;
+    case UNSHARED: mark_unshared(m); break;
     }
     for (size_t i = 0; i < m.n; i++)
         mark(m, i, i);

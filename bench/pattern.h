@@ -3,7 +3,7 @@
 #define BENCH_PATTERN_H
 #include <stddef.h>
 
-enum kind { GRID, SURVEY, STRIP, BAND, RANDOM, ARROW_LAST, ARROW_FIRST, DENSE };
+enum kind { GRID, SURVEY, STRIP, BAND, RANDOM, ARROW_LAST, ARROW_FIRST, DENSE, UNSHARED };
 
 struct pattern {
     size_t n, entries;

@@ -1,4 +1,4 @@
-/* The plan of document 01 (report CS-84-43, sections 2 and 3.1), and refusals 1 to 5, 7 and 8. */
+/* The plan of document 01 (report CS-84-43, sections 2 and 3.1) with shared subscripts by document 02, ticket 5, and refusals 1 to 5, 7 and 8. */
 #include "plain.h"
 
 #include <string.h>
@@ -132,14 +132,12 @@ static size_t kept_list(const plain_side *side, size_t n, size_t k, size_t *list
     return count;
 }
 
-/* The longest t for which the last t subscripts of the list of k-1, if it ends at the store's end, are the first t of the new list. */
+/* The longest t for which the last t subscripts of the whole store, whichever list put them there, are the first t of the new list. */
 static size_t longest_shared_end(const plain_side *side, size_t k, const size_t *list, size_t count)
 {
     size_t end = side->end[k - 1];
     size_t t;
-    if (k == 1 || side->start[k - 1] + side->kept[k - 1] != end)
-        return 0;
-    for (t = side->kept[k - 1] < count ? side->kept[k - 1] : count; t > 0; t--)
+    for (t = end < count ? end : count; t > 0; t--)
         if (memcmp(side->subs + end - t, list, t * sizeof *list) == 0)
             return t;
     return 0;

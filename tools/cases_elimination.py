@@ -18,7 +18,7 @@ import struct
 import sys
 
 from cases_patterns import FIELDS, flat, joining, shape, shared_with_earlier, strip_with_steps_between, together
-from cases_steps import joined
+from cases_steps import joined, sharing_otherwise
 from dense_program import Dense
 
 HEAD = ["most", "n", "starts", "columns",
@@ -55,10 +55,11 @@ def refusal(answer):
 
 
 class Cases:
-    def __init__(self, dense):
-        self.dense = dense
+    def __init__(self, dense, document_01):
+        self.dense, self.document_01 = dense, document_01
         self.bytes, self.lines, self.count = bytearray(), [], 0
         self.answers, self.steps = {}, {13: set(), 14: set()}
+        self.otherwise = [0, 0]     # verified and run otherwise by document 01 alone
         self.finished = {(a, b): 0 for a in ("largest", "listed") for b in ("whole", "cut")}
 
     def request(self, most, n, starts, columns, counts, stores, values, right, listed, cut, lengths, work):
@@ -74,9 +75,13 @@ class Cases:
         self.bytes += struct.pack(f"<{len(values)}d", *values) + struct.pack(f"<{len(right)}d", *right)
         fixed = [(work[name], n + 1) for name in WORK_NEXT] + [(work[name], n) for name in WORK_N]
         planning = [pair for name, pair in zip(WORK_NEXT + WORK_N, fixed) if name not in ("copy", "dense")]
-        held = self.dense.hold_call(most, n, starts, columns, counts, stores, planning)
+        asked = most, n, starts, columns, counts, stores
+        held = self.dense.hold_call(*asked, planning)
         self.lines.append("verify agrees" if held[0] == "granted" else "verify " + refusal(held))
-        called = self.dense.run_call(most, n, starts, columns, counts, stores, fixed, values, right, listed, cut, lengths)
+        asked_run = *asked, fixed, values, right, listed, cut, lengths
+        called = self.dense.run_call(*asked_run)
+        self.otherwise[0] += held != self.document_01.hold_call(*asked, planning)
+        self.otherwise[1] += called.answer != self.document_01.run_call(*asked_run).answer
         if called.answer[0] == "granted":
             self.lines.append(f"run finished {called.answer[1]}")
             self.finished["largest" if listed is None else "listed", "whole" if cut is None else "cut"] += 1
@@ -369,10 +374,47 @@ def add_together(cases, rng):
         changed_at(cases, rng, rows, step, number // 2, number, number)
 
 
+# ------------------------------------------------------- plans by document 01 alone
+
+def lent_from(dense, rows, *names):
+    """Puts the named parts of the plan that a program makes into the lent one: "counts", or stores."""
+    def bend(counts, stores):
+        plan = dense.plan(rows)
+        made = dense.stores_of(plan)
+        for name in names:
+            if name == "counts":
+                counts[:] = dense.counts_of(plan)
+            else:
+                stores[name][:] = made[name]
+    return bend
+
+
+def add_plans_of_document_01(cases, rng):
+    """Patterns whose lists share with the end of the whole store: their own plan, and the plan by document 01 alone, which is 9. That plan whole, its
+    stores under the pattern's own counts, its counts alone, and on each side that differs its starts alone; then 9 against 6 and 10."""
+    before = cases.count
+    for turn, (rows, ended) in enumerate(sharing_otherwise(cases.dense, rng, 2, 36)):
+        values, right = numbers(rng, entries(rows), "plain"), numbers(rng, len(rows), "plain")
+
+        def lent(*names, values=values, **other):
+            return cases.run(rows, values, right, bend=lent_from(cases.document_01, rows, *names), **other)
+
+        agreed_with(cases, rng, rows, ended[0].step if ended else 1, turn)
+        own, alone = (dense.stores_of(dense.plan(rows)) for dense in (cases.dense, cases.document_01))
+        starts = [[name] for name in ("l_starts", "u_starts") if own[name] != alone[name]]
+        for names in (["counts", *PLAN_STORES], PLAN_STORES, ["counts"], *starts):
+            assert lent(*names) == ("refused", 9, 0)
+        if turn % 4 == 0:
+            assert lent("counts", *PLAN_STORES, more={WORK_N[turn // 4 % 3]: 1}) == ("refused", 6, 0)
+            assert lent("counts", *PLAN_STORES, values=values[:-1]) == ("refused", 9, 0)
+            assert lent(values=values[:-1]) == ("refused", 10, 0)
+    return cases.count - before
+
+
 def main():
     if len(sys.argv) != 2:
         raise SystemExit(__doc__)
-    rng, cases = random.Random(19841984), Cases(Dense(sys.argv[1]))
+    rng, cases = random.Random(19841984), Cases(Dense(sys.argv[1]), Dense(sys.argv[1], share_end=False))
     add_named(cases, rng)
     add_refused(cases, rng)
     add_random(cases, rng)
@@ -380,6 +422,7 @@ def main():
     rng = random.Random(19841985)       # a seed of their own, so that the requests above can stay as they are
     sides = add_joined(cases, rng)
     add_together(cases, rng)
+    alone = add_plans_of_document_01(cases, random.Random(19841986))
     crate = os.path.join(os.path.dirname(os.path.abspath(__file__)), "..", "crates", "cases_elimination")
     with open(os.path.join(crate, "stdin"), "wb") as file:
         file.write(cases.bytes)
@@ -387,7 +430,8 @@ def main():
         file.write("\n".join(cases.lines) + "\n")
     print(f"{cases.count} requests; finished {cases.finished}; refused {dict(sorted(cases.answers.items()))}; "
           f"steps of 13 {sorted(cases.steps[13])}, of 14 {sorted(cases.steps[14])}; "
-          f"{len(sides)} pairs of what a row is to L and to U, each at {min(sides.values())} steps")
+          f"{len(sides)} pairs of what a row is to L and to U, each at {min(sides.values())} steps; "
+          f"with plans by document 01 alone: {alone}; by it verified otherwise {cases.otherwise[0]}, run otherwise {cases.otherwise[1]}")
 
 
 if __name__ == "__main__":

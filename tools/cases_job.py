@@ -17,6 +17,7 @@ import struct
 import sys
 
 from cases_patterns import FIELDS, chained, fixed_shapes, grid, shape, sparse
+from cases_steps import sharing_otherwise
 from dense_program import Dense
 from job_bytes import Fields, Row, bits_of, write
 
@@ -55,25 +56,34 @@ def filled(rows, draw):
 class Cases:
     """The jobs and their answers so far, and what they cover."""
 
-    def __init__(self, dense):
-        self.dense, self.jobs, self.answers = dense, [], []
+    def __init__(self, dense, document_01):
+        self.dense, self.document_01, self.jobs, self.answers = dense, document_01, [], []
         self.numbers, self.steps = {}, {}
+        self.changed = {}       # jobs that document 01 alone answers otherwise: how often, by its answer's number and by ours
 
     def add(self, bytes_):
         answer = self.dense.report(bytes_)
         self.jobs.append(bytes_)
         self.answers.append(answer)
-        words = answer.split()
-        number = int(words[1]) if words[0] == "refused" else 0
+        number, alone = number_of(answer), self.document_01.report(bytes_)
         self.numbers[number] = self.numbers.get(number, 0) + 1
         if number:
-            self.steps.setdefault(number, set()).add(int(words[2]))
+            self.steps.setdefault(number, set()).add(int(answer.split()[2]))
+        if answer != alone:
+            numbers = number_of(alone), number
+            self.changed[numbers] = self.changed.get(numbers, 0) + 1
         return answer
 
     def expect(self, bytes_, answer):
         """A job whose answer was foreseen: the generator is at fault if the dense program says otherwise."""
         found = self.add(bytes_)
         assert found.startswith(answer), (found, answer)
+
+
+def number_of(answer):
+    """The number of a refusal, 0 for a run that finished."""
+    words = answer.split()
+    return int(words[1]) if words[0] == "refused" else 0
 
 
 # ------------------------------------------------------- groups of jobs
@@ -248,6 +258,18 @@ def arrow(size, more):
     return rows + [[size + c for c in row] for row in blocks(more)]
 
 
+def anew(steps, full, wide):
+    """Fields that are tied to the next but one, with a field that stands alone after each: its lists are empty, so that document 01 alone lays the next
+    ones anew. `full` rows with column 1 make the lists of L and U long, `wide` further columns of row 1 those of U."""
+    rows = [{i} for i in range(1, 2 * steps + full + wide)]
+    for k in range(1, 2 * steps - 2, 2):
+        rows[k - 1].add(k + 2)
+    for i in range(2 * steps, 2 * steps + full):
+        rows[i - 1].add(1)
+    rows[0] |= set(range(2 * steps + full, 2 * steps + full + wide))
+    return [sorted(row) for row in rows]
+
+
 def sized(cases, rows, rng, answer):
     """A job of this pattern with dominant diagonals."""
     values = [[9.0 * len(rows) if c == i else rng.uniform(-1, 1) for c in row] for i, row in enumerate(rows, 1)]
@@ -280,6 +302,20 @@ def limits(cases, rng):
     sized(cases, exact + [[78, 79], [78, 79]], rng, "refused 10 0\n")
     sized(cases, exact + [[78, 79], [79]], rng, "refused 10 0\n")
     sized(cases, arrow(128, []), rng, "refused 10 0\n")
+    # by document 01 alone 7 and 8; the subscripts now fit, the slots do not: they are no fewer than its subscripts
+    sized(cases, anew(32, 65, 0), rng, "refused 10 0\n")
+    sized(cases, anew(28, 60, 13), rng, "refused 10 0\n")
+
+
+def ends_shared(cases, rng):
+    """Lists that share with the end of the whole store, so that the plan has fewer subscripts than by document 01 alone."""
+    for turn, (rows, _) in enumerate(sharing_otherwise(cases.dense, rng, 2, 36)):
+        values = [[9.0 * len(rows) if c == i else rng.uniform(-1, 1) for c in row] for i, row in enumerate(rows, 1)]
+        cases.expect(job(rows, values, [rng.uniform(-1, 1) for _ in rows], range(1, len(rows) + 1) if turn % 3 == 0 else ()), "plan")
+    for steps, full, wide in ((2, 1, 0), (3, 4, 2), (10, 12, 5), (20, 20, 9)):
+        sized(cases, anew(steps, full, wide), rng, "plan")
+    for more in (60, 120):
+        sized(cases, sparse(rng, 128, more), rng, "plan")
 
 
 def large(cases, rng):
@@ -339,7 +375,7 @@ def recorded():
 def main():
     if len(sys.argv) != 2:
         raise SystemExit(__doc__)
-    cases, rng = Cases(Dense(sys.argv[1])), random.Random(8443)
+    cases, rng = Cases(Dense(sys.argv[1]), Dense(sys.argv[1], share_end=False)), random.Random(8443)
     four_fields(cases)
     commands(cases)
     small(cases)
@@ -350,13 +386,15 @@ def main():
     limits(cases, rng)
     large(cases, rng)
     longest(cases, rng)
+    ends_shared(cases, random.Random(8445))
     assert sorted(cases.numbers) == [0] + REACHABLE, sorted(cases.numbers)
     with open(os.path.join(FOLDER, "stdin"), "wb") as file:
         file.write(b"".join(struct.pack("<H", len(text)) + text for text in cases.jobs))
     with open(os.path.join(FOLDER, "stdout"), "w") as file:
         file.write("".join(f"job {i}\n{answer}" for i, answer in enumerate(cases.answers, 1)))
     steps = {number: sorted(found) for number, found in sorted(cases.steps.items()) if number in (7, 8, 13, 14)}
-    print(f"{len(cases.jobs)} jobs; answers by number (0: finished) {dict(sorted(cases.numbers.items()))}; steps {steps}")
+    print(f"{len(cases.jobs)} jobs; answers by number (0: finished) {dict(sorted(cases.numbers.items()))}; steps {steps}; "
+          f"otherwise by document 01 alone: {sum(cases.changed.values())}, by its answer and ours {dict(sorted(cases.changed.items()))}")
 
 
 if __name__ == "__main__":

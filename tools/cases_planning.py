@@ -19,7 +19,7 @@ import sys
 
 from cases_patterns import (FIELDS, chained, fixed_shapes, flat, grid, joining, near_strip, shape, shared_with_earlier, sparse, strip_with_steps_between,
                             together)
-from cases_steps import joined, may_miss_end, store_sizes, ways
+from cases_steps import joined, may_miss_end, sharing_otherwise, store_sizes, ways
 from dense_program import Dense
 
 RESULTS = ["l_subs", "l_starts", "l_slots", "u_subs", "u_starts", "u_slots"]
@@ -30,11 +30,13 @@ STORES = ["l_subs", "u_subs", "l_starts", "l_slots", "u_starts", "u_slots",
 class Cases:
     """The requests and the expected lines so far, and what they cover."""
 
-    def __init__(self, dense):
-        self.dense = dense
+    def __init__(self, dense, document_01):
+        self.dense, self.document_01 = dense, document_01
         self.words, self.lines, self.count = [], [], 0
         self.answers = {}       # answers by number, 0 being a plan
         self.steps = {7: set(), 8: set()}
+        self.changed = {}       # requests that document 01 alone answers otherwise: how often, by its answer's number and by ours
+        self.patterns = set()   # the patterns of these
 
     # ---- what is expected
 
@@ -47,19 +49,20 @@ class Cases:
         """The answer's line and the contents of each result store."""
         results = {name: lengths[name] for name in RESULTS}
         work = [(lengths[name], size) for name, size in self.right_lengths(n).items() if name not in RESULTS]
-        called = self.dense.plan_call(most, n, starts, columns, results, work)
+        called, alone = (program.plan_call(most, n, starts, columns, results, work) for program in (self.dense, self.document_01))
+        if called != alone:
+            numbers = number_of(alone.answer), number_of(called.answer)
+            self.changed[numbers] = self.changed.get(numbers, 0) + 1
+            self.patterns.add((tuple(starts), tuple(columns)))
         return self.noted(called.answer), called.stores
 
     def noted(self, answer):
         """The answer's line; what it covers is noted."""
-        if answer[0] == "granted":
-            self.answers[0] = self.answers.get(0, 0) + 1
-            return " ".join(map(str, ["plan", *answer[1]]))
-        _, number, step = answer
+        number = number_of(answer)
         self.answers[number] = self.answers.get(number, 0) + 1
         if number in self.steps:
-            self.steps[number].add(step)
-        return f"refused {number} {step}"
+            self.steps[number].add(answer[2])
+        return f"refused {number} {answer[2]}" if number else " ".join(map(str, ["plan", *answer[1]]))
 
     # ---- cases
 
@@ -86,6 +89,10 @@ class Cases:
         l_room, u_room = self.rooms(rows)
         starts, columns = flat(rows)
         return self.raw(most, len(rows), starts, columns, max(0, l_room + l_more), max(0, u_room + u_more), **other)
+
+
+def number_of(answer):
+    return 0 if answer[0] == "granted" else answer[1]
 
 
 # ------------------------------------------------------- groups of requests
@@ -204,6 +211,25 @@ def side_by_side(cases, rng):
                     count[step.sides] += 1
                     short_at(cases, rows, step.step)
     return count
+
+
+def ends_shared(cases, rng):
+    """Lists that share with the end of the whole store: rooms that are exactly met, and one short on each side that document 01 alone makes longer. For the
+    first patterns, which have every kind, also rooms as document 01 alone needs them, and rooms that end with the step."""
+    before = cases.count
+    for number, (rows, ended) in enumerate(sharing_otherwise(cases.dense, rng, 12, 220)):
+        alone = cases.document_01.plan(rows)
+        (l_room, u_room), l_alone, u_alone = cases.rooms(rows), len(alone.l_side.store), len(alone.u_side.store)
+        cases.plan(rows)
+        if l_room < l_alone:
+            cases.plan(rows, -1, 0)
+        if u_room < u_alone:
+            cases.plan(rows, 0, -1)
+        if number < 40:
+            cases.plan(rows, l_alone - l_room, u_alone - u_room)
+            for step in sorted({found.step for found in ended}):
+                short_at(cases, rows, step)
+    return cases.count - before
 
 
 def large(cases, rng):
@@ -354,7 +380,7 @@ def orders(cases, rng):
 def main():
     if len(sys.argv) != 2:
         raise SystemExit(__doc__)
-    cases, rng = Cases(Dense(sys.argv[1])), random.Random(8443)
+    cases, rng = Cases(Dense(sys.argv[1]), Dense(sys.argv[1], share_end=False)), random.Random(8443)
     planned(cases, rng)
     large(cases, rng)
     refused_1_to_5(cases)
@@ -365,6 +391,7 @@ def main():
     rng = random.Random(8444)                           # a seed of their own, so that the requests above can stay as they are
     many = met_together(cases, rng)
     sides = side_by_side(cases, rng)
+    ends = ends_shared(cases, random.Random(8445))
     assert all(cases.answers.get(number, 0) >= 10 for number in range(9)), cases.answers
     # the last request asks for more columns than the program has: it ends the program
     cases.words += [1024, 1, 2, 16401] + [1] * 12
@@ -376,6 +403,8 @@ def main():
         file.write("\n".join(cases.lines) + "\n")
     print(f"{cases.count} cases; rows that join the list before: {short}; on rows met together: {many}; "
           f"{len(sides)} pairs of what a row is to L and to U, each at {min(sides.values())} steps; "
+          f"on lists that share with the end of the store: {ends}; otherwise by document 01 alone: {sum(cases.changed.values())} requests on "
+          f"{len(cases.patterns)} patterns, by its answer and ours {dict(sorted(cases.changed.items()))}; "
           f"answers by number (0: planned) {dict(sorted(cases.answers.items()))}; "
           f"7 at steps {sorted(cases.steps[7])}, 8 at steps {sorted(cases.steps[8])}")
 

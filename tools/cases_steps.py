@@ -1,6 +1,10 @@
 """What the steps of a pattern's plan do, so that the requests of the test programs reach every way a step can go."""
 import collections
 
+from cases_patterns import shared_with_earlier, sparse, strip_with_steps_between
+
+
+# ------------------------------------------------------- rows that join the list of the step before
 
 Joined = collections.namedtuple("Joined", "step sides")
 
@@ -98,3 +102,95 @@ def may_miss_end(n, bits):
             rest = upper[k] & (-2 << k)
             sets[(rest & -rest).bit_length() - 1].append(k)
     return False
+
+
+# ------------------------------------------------------- lists and the end of their store
+# Document 02, ticket 5: "t is the longest run for which the last t subscripts of the whole store equal the first t of the new list, whichever list put
+# them there. The two earlier cases of document 01 still come first." Document 01 alone compared the list of k-1, if it ended the store.
+
+# where t is longer than document 01 alone has it
+LONGER = {"part": "the list of k-1 does not end the store, and a part of the new list stands there",
+          "all": "the list of k-1 does not end the store, and all of the new list stands there: nothing is added",
+          "after none": "the list of k-1 is empty",
+          "after [k]": "the list of k-1 is [k] and does not end the store",
+          "by several": "more than one step put the t subscripts there",
+          "beyond": "the list of k-1 ends the store, and t is more than its length",
+          "whole store": "the new list is longer than the store, which t takes whole"}
+# where t is not asked for, or is 0, and a near mistake would have another start
+AS_BEFORE = {"empty": "an empty list, behind some subscripts",
+             "[k] at the end": "the list of k-1 is [k] and ends the store: all of the new list is above k",
+             "sole, all": "all of a sole step's list stands at the end as well",
+             "sole, part": "a part of a sole step's list stands at the end"}
+Ended = collections.namedtuple("Ended", "side step kinds")
+
+
+def longest_run(store, new):
+    """The longest t for which the last t of one list are the first t of another."""
+    return max(t for t in range(min(len(store), len(new)) + 1) if store[len(store) - t:] == new[:t])
+
+
+def kinds_of_longer(side, k, sizes, t):
+    """The kinds of a list whose t document 01 alone does not have."""
+    last, new, end = side.kept[k - 1], side.kept[k], sizes[k - 1]
+    found = set()
+    if side.start[k - 1] + len(last) != end:
+        found.add("all" if t == len(new) else "part")
+        if last == [k]:
+            found.add("after [k]")
+    else:
+        found.add("beyond" if last else "after none")
+    if t == end < len(new):
+        found.add("whole store")
+    if len({min(step for step in range(1, k) if place < sizes[step]) for place in range(end - t, end)}) > 1:
+        found.add("by several")
+    return found
+
+
+def kinds_at(side, k, is_sole, sizes):
+    """What the list of step k is to its side's store, which is so long after each number of steps."""
+    new, end = side.kept[k], sizes[k - 1]
+    if not new:
+        return {"empty"} if end else set()
+    t = longest_run(side.store[:end], new)
+    if is_sole:
+        return {"sole, all" if t == len(new) else "sole, part"} if t and side.start[k] != end - t else set()
+    if k == 1:
+        return set()
+    last = side.kept[k - 1]
+    ends = side.start[k - 1] + len(last) == end
+    if t > (longest_run(last, new) if ends else 0):
+        return kinds_of_longer(side, k, sizes, t)
+    return {"[k] at the end"} if ends and last == [k] else set()
+
+
+def ends_met(plan, rows):
+    """The steps and sides whose list is one of the kinds above to its store."""
+    first_met, steps = met_and_handed(plan, rows)
+    found = []
+    for letter, side in (("L", plan.l_side), ("U", plan.u_side)):
+        sizes = store_sizes(plan, side)
+        for k in range(1, plan.n + 1):
+            kinds = kinds_at(side, k, len(steps[k]) == 1 and not first_met[k], sizes)
+            if kinds:
+                found.append(Ended(letter, k, kinds))
+    return found
+
+
+def sharing_otherwise(dense, rng, times, patterns):
+    """Patterns in which some t is longer than document 01 alone has it, each with the steps for which it was taken: every kind `times` times on either
+    side, and so many patterns at least. On the side of L no list of a sole step stands elsewhere too: its rows are in no list between the two steps."""
+    wanted = {(side, kind): times for side in "LU" for kind in (*LONGER, *AS_BEFORE) if side == "U" or not kind.startswith("sole")}
+    taken = []
+    while any(wanted.values()) or len(taken) < patterns:
+        for rows in (sparse(rng, rng.randint(4, 10), rng.randint(3, 20)), strip_with_steps_between(rng), shared_with_earlier(rng)):
+            met = ends_met(dense.plan(rows), rows)
+            if rows in taken or not any(kind in LONGER for ended in met for kind in ended.kinds):
+                continue
+            asked = [ended for ended in met if any(wanted.get((ended.side, kind)) for kind in ended.kinds)]
+            if not asked and any(wanted.values()):
+                continue
+            for ended in asked:
+                for kind in ended.kinds:
+                    wanted[ended.side, kind] = max(0, wanted[ended.side, kind] - 1)
+            taken.append(rows)
+            yield rows, asked

@@ -1,23 +1,24 @@
 """The dense program of different authorship that document 01 asks for ("other cases are executed and compared"), as the tools that write the cases ask it.
 
-It is a folder with now.py, which knows whole calls by documents 01 and 02, and what now.py imports. LANDED says which requests of document 02 have landed.
+It is a folder with now.py, which knows whole calls by documents 01 and 02, and what now.py imports. LANDED says which requests of document 02 have landed;
+`Dense(FOLDER, share_end=False)` answers as if ticket 5 had not, so that the cases can show where its rule makes a difference.
 """
 import collections
 import os
 import sys
 
-LANDED = {"share_end": False, "faint": False, "tall": False}
+LANDED = {"share_end": True, "faint": False, "tall": False}
 Called = collections.namedtuple("Called", "answer stores")
 
 
 class Dense:
     """Calls, plans and reports by the rules that are in. Without ticket 9 the row count is n, and the library's counts leave it out: they are seven."""
 
-    def __init__(self, folder):
+    def __init__(self, folder, **other_rules):
         if os.path.abspath(folder) not in sys.path:
             sys.path.insert(0, os.path.abspath(folder))
         import now
-        self.now, self.rules = now, now.Rules(**LANDED)
+        self.now, self.rules = now, now.Rules(**{**LANDED, **other_rules})
 
     # ---- plans of patterns that pass 1 to 5, given by their rows
 

@@ -6,9 +6,10 @@
   python3 tools/edits.py --check    ends with status 1 if the table there is another one, or if an edit does not say what it shows
 
 An edit (crates/NAME/must-fail/*.edit) is read by `rt`: a line 'file: PATH' holds for the pairs 'old: TEXT' and 'new: TEXT' after it, and every
-other line is free text. Of the free text this tool reads two kinds of line, and no other:
+other line is free text. Of the free text this tool reads three kinds of line, and no other:
 
   # document 01, SECTION: WORDS     the sentence that the edit breaks, or the wrong program that it is; the first one is the edit's first line
+  # document 02, TICKET: WORDS      the same, where a request of document 02 changed the sentence or made it
   # WORDS                           one of the mistakes of the edit, where it has several
 
 It needs Python 3 and nothing else.
@@ -22,13 +23,14 @@ CRATES = "crates"
 PAGE = os.path.join("docs", "PROMISES.md")
 BEGIN = "<!-- edits: written by tools/edits.py --write -->"
 END = "<!-- end of edits -->"
-SENTENCE = "# document 01, "
+SENTENCE = re.compile(r"# document (\d\d), (.*)")
 
-# The sections of document 01 that an edit may name: a name that is not here is a slip, since the reader could not find it.
-SECTIONS = ("Pattern", "Plan", "Shared subscripts", "Elimination", "Free elimination", "Job", "Where each refusal is checked",
-            "Fields worked through", "Mistakes near at hand", "Agreement on statements", "Which form belongs where")
+# The sections of document 01 and the requests of document 02 that an edit may name: a name that is not here is a slip, since the reader could not find it.
+SECTIONS = {"01": ("Pattern", "Plan", "Shared subscripts", "Elimination", "Free elimination", "Job", "Where each refusal is checked",
+            "Fields worked through", "Mistakes near at hand", "Agreement on statements", "Which form belongs where"),
+            "02": ("Ticket 5",)}
 
-# Crates whose specs/ are the definitions of document 01; the specs/ of every other crate are the statements of its functions.
+# Crates whose specs/ are the definitions of documents 01 and 02; the specs/ of every other crate are the statements of its functions.
 DEFINING = ("foundation", "lists")
 KINDS = ("code", "statement", "definition")
 
@@ -43,7 +45,7 @@ class Edit:
     def __init__(self, crate, name):
         self.crate, self.name = crate, name
         self.kinds = set()
-        self.said = []               # pairs: a sentence of document 01, and the mistakes under it
+        self.said = []               # pairs: a sentence of a document, and the mistakes under it
 
 
 def kind_of(crate, path, old):
@@ -57,9 +59,10 @@ def kind_of(crate, path, old):
 
 def sentence_of(line):
     """The section and the words of a line that names a sentence."""
-    section, colon, words = line[len(SENTENCE):].partition(": ")
-    if not colon or not words.strip() or section not in SECTIONS:
-        raise BadEdit(f"'{line}' names no section of document 01, or says nothing of it")
+    document, said = SENTENCE.fullmatch(line).groups()
+    section, colon, words = said.partition(": ")
+    if not colon or not words.strip() or section not in SECTIONS.get(document, ()):
+        raise BadEdit(f"'{line}' names no section of document 01 or request of document 02, or says nothing of it")
     return f"{section}: {words.strip()}"
 
 
@@ -67,8 +70,8 @@ def read_edit(crate, name, text):
     """An edit from its text."""
     edit, path = Edit(crate, name), None
     lines = text.splitlines()
-    if not lines or not lines[0].startswith(SENTENCE):
-        raise BadEdit(f"the first line has to begin with '{SENTENCE}' and to say what the edit shows")
+    if not lines or not SENTENCE.fullmatch(lines[0]):
+        raise BadEdit("the first line has to begin with '# document 01, ' or '# document 02, ' and to say what the edit shows")
     for line in lines:
         if line.startswith("file:"):
             path = line[len("file:"):].strip()
@@ -76,7 +79,7 @@ def read_edit(crate, name, text):
             edit.kinds.add(kind_of(crate, path or "", line))
         elif line.startswith("new:"):
             continue
-        elif line.startswith(SENTENCE):
+        elif SENTENCE.fullmatch(line):
             edit.said.append((sentence_of(line), []))
         elif line.startswith("#"):
             edit.said[-1][1].append(line.lstrip("#").strip())
@@ -126,7 +129,7 @@ def counted(edits):
 
 def table(edits):
     """The table in Markdown."""
-    lines = [counted(edits), "", "| Crate | Edit | Edited | What it shows: document 01, by section |", "|---|---|---|---|"]
+    lines = [counted(edits), "", "| Crate | Edit | Edited | What it shows: document 01, by section, and document 02, by ticket |", "|---|---|---|---|"]
     lines += [f"| `{edit.crate}` | {edit.name} | {kinds_of(edit)} | {shown(edit)} |" for edit in edits]
     return "\n".join(lines) + "\n"
 

@@ -21,7 +21,7 @@ file: src/sets.rt
 old:     if a < b {
 new:     if a > b {
 A remark, which is not for the table.
-# document 01, Shared subscripts: find the longest t
+# document 02, Ticket 5: t is the longest run
 # a | b
 # c
 file: src/gather.rt
@@ -39,11 +39,12 @@ class Reading(unittest.TestCase):
     def test_several_mistakes(self):
         edit = edits.read_edit("plan_gather", "two", TWO)
         self.assertEqual(edits.shown(edit), "Mistakes near at hand: marking a row met without handing on its step (hands on nothing). "
-                                            "Shared subscripts: find the longest t (a \\| b; c)")
+                                            "Ticket 5: t is the longest run (a \\| b; c)")
 
     def test_no_head_line(self):
         for text in ("", "file: src/lib.rt\n" + ONE, "# ties to the higher row\n" + ONE, "A remark.\n" + ONE,
-                     "# document 01, Elimination\n" + ONE, "# document 01, Elimination: \n" + ONE, "# document 01, Eliminating: ties\n" + ONE):
+                     "# document 01, Elimination\n" + ONE, "# document 01, Elimination: \n" + ONE, "# document 01, Eliminating: ties\n" + ONE,
+                     "# document 02, Elimination: ties\n" + ONE, "# document 01, Ticket 5: ties\n" + ONE, "# document 03, Ticket 5: ties\n" + ONE):
             with self.assertRaises(edits.BadEdit, msg=text):
                 edits.read_edit("run_pivot", "ties", text)
 

@@ -1,4 +1,4 @@
-"""The definitions of document 01 on full squares and sets, written plainly: what the library's answers are compared with.
+"""The definitions of document 01, and of document 02's ticket 5, on full squares and sets, written plainly: what the library's answers are compared with.
 
 Rows, columns and steps count from 1 in `plan_of`, as in the paper, and from 0 in the elimination, as in numpy.
 """
@@ -38,8 +38,8 @@ def plan_of(n, rows):
 
 
 def shared(n, side, handed, first_met):
-    """Shared subscripts of a side: subscripts, starts, slot starts."""
-    subscripts, starts, slots, last = [], [], [0], []
+    """Shared subscripts of a side: subscripts, starts, slot starts. A list shares with the end of the whole store, whichever list put it there."""
+    subscripts, starts, slots = [], [], [0]
     for k in range(1, n + 1):
         kept = sorted(side[k] - {k})
         if not kept:
@@ -47,14 +47,12 @@ def shared(n, side, handed, first_met):
         elif len(handed[k]) == 1 and not first_met[k]:
             start = starts[handed[k][0] - 1] + 1
         else:
-            at_end = bool(starts) and starts[-1] + len(last) == len(subscripts)
-            longest = min(len(last), len(kept)) if at_end else 0
-            t = next(t for t in range(longest, -1, -1) if last[len(last) - t:] == kept[:t])
-            start = len(subscripts) - t
+            end = len(subscripts)
+            t = next(t for t in range(min(end, len(kept)), -1, -1) if subscripts[end - t:] == kept[:t])
+            start = end - t
             subscripts += kept[t:]
         starts.append(start)
         slots.append(slots[-1] + len(kept))
-        last = kept
     return subscripts, starts, slots
 
 

@@ -20,7 +20,7 @@ use Rattle.foundation.proofs.Gathered.{list-done, list-row, list-step, 
 -- ---- a law of lists
 
 -- two members that differ make a list of more than one
-two-members : (x y : ℕ) (xs : List ℕ) → member x xs ≡ true → member y xs ≡ true → (x ≡ y → ⊥) → 1 < length xs
+pub two-members : (x y : ℕ) (xs : List ℕ) → member x xs ≡ true → member y xs ≡ true → (x ≡ y → ⊥) → 1 < length xs
 two-members x y [] mx my n = absurd (not-member-nil x mx)
 two-members x y (z ∷ []) mx my n =
     ⊎-elim

@@ -5,12 +5,11 @@ use mathlib.Core.Path.{_≡_, refl, sym, _∙_}
 use Prim.Native.Nat.{ℕ, zero, suc, _+_, _-_, _≤_, _<_}
 use native.Mathlib.Decide.{decLe}
 use native.Mathlib.Omega.{arith}
-use lib.Dec.{eqb, ltb}
+use lib.Dec.{ltb}
 use lib.ListN.{length, take, drop, length-append, length-drop, take-append-drop}
-use lib.Seq.{take-all, take-length, drop-length, take-append-le, take-append-seam, drop-append-le, drop-drop}
-use borrow.Author.Tests.{eqb-true, ltb-true}
+use lib.Seq.{take-length, take-append-le, take-append-seam, drop-append-le, drop-drop}
+use borrow.Author.Tests.{ltb-true}
 use Rattle.lists.specs.Functions.{empty}
-use Rattle.lists.specs.Sets.{overlap}
 use Rattle.lists.proofs.Members.{by-test, empty-nil}
 use Rattle.lists.proofs.Overlap.{overlap-left, overlap-right, overlap-same}
 use Rattle.lists.proofs.Places.{update-same, update-other}
@@ -52,12 +51,6 @@ lies-behind k xs store start h =
     let i = h .inside in
     record { inside = omega arith; reads = rw (← drop-drop 1 start store) (behind-first k xs (drop start store) (h .reads)) }
 
--- a list that ends where the store ends is all of the store from its start on
-pub lies-last : (xs store : List ℕ) (start : ℕ) → Lies xs store start → start + length xs ≡ length store → drop start store ≡ xs
-unfolding opened
-lies-last xs store start h e =
-    sym (take-all (length xs) (drop start store) (rw length-drop (omega arith))) ∙ h .reads
-
 -- The last t of a store are the first t of a list.
 pub record Joins (t : ℕ) (store new : List ℕ) : Type 0 where
   pub in-store : t ≤ length store
@@ -75,36 +68,12 @@ lies-joined t new store j =
       reads = rw (drop-append-le (length store - t) store (drop t new) (omega arith), j .same, take-append-drop t new) (take-length new);
     }
 
--- no subscript is always common to both
-pub joins-none : (store new : List ℕ) → Joins 0 store new
-joins-none store new =
-    let whole : length store - 0 ≡ length store = omega arith in
-    record { in-store = omega arith; in-new = omega arith; same = rw whole (drop-length store) }
-
--- the overlap of the last list with a new one, where the last list ends at the store's end
-pub joins-overlap :
-    (last store new : List ℕ) (start : ℕ) → Lies last store start → start + length last ≡ length store → Joins (overlap last new) store new
-joins-overlap last store new start h e =
-    let t = overlap last new in
-    let l : t ≤ length last = overlap-left last new in
-    let split : length store - t ≡ start + (length last - t) = omega arith in
-    record {
-      in-store = omega arith;
-      in-new = overlap-right last new;
-      same = rw (split, ← drop-drop (length last - t) start store, lies-last last store start h e) (overlap-same last new);
-    }
-
 -- ---- the rule for t
 
 -- Of the rule for t, this alone is used: t is at most both lengths, and the store's last t are the new list's first t.
-pub shared-end-law :
-    (sh : Shared) (previous : ℕ) (last new : List ℕ) → Lies last (sh .store) (sh .start previous)
-    → Joins (sharedEnd sh previous last new) (sh .store) new
+pub shared-end-law : (sh : Shared) (new : List ℕ) → Joins (sharedEnd sh new) (sh .store) new
 unfolding sharedEnd
-shared-end-law sh previous last new h =
-    by-test (eqb (sh .start previous + length last) (length (sh .store)))
-    (λ e. rw e (joins-overlap last (sh .store) new (sh .start previous) h (eqb-true _ _ e)))
-    (λ e. rw e (joins-none (sh .store) new))
+shared-end-law sh new = record { in-store = overlap-left (sh .store) new; in-new = overlap-right (sh .store) new; same = overlap-same (sh .store) new }
 
 -- ---- a step
 
@@ -152,14 +121,14 @@ module _ (s : Planning) (side : Side) where
     -- every other list starts at the store's end less t
     pub start-joined :
         empty (kept s side (suc k)) ≡ false → ltb 0 (soleStep s (suc k)) ≡ false
-        → startAt s side sh k ≡ length (sh .store) - sharedEnd sh k (kept s side k) (kept s side (suc k))
+        → startAt s side sh k ≡ length (sh .store) - sharedEnd sh (kept s side (suc k))
     unfolding startAt
     start-joined e f = rw (e, f)
 
     -- every other list adds what it has behind its first t
     pub added-joined :
         empty (kept s side (suc k)) ≡ false → ltb 0 (soleStep s (suc k)) ≡ false
-        → addedAt s side sh k ≡ drop (sharedEnd sh k (kept s side k) (kept s side (suc k))) (kept s side (suc k))
+        → addedAt s side sh k ≡ drop (sharedEnd sh (kept s side (suc k))) (kept s side (suc k))
     unfolding addedAt
     added-joined e f = rw (e, f)
 
@@ -215,20 +184,19 @@ module _ (s : Planning) (side : Side) where
 
   -- ---- every list opens
 
-  -- The new list of a step lies in the store after it, if the list before it lies in the store before it, and so does the list of which
-  -- the new one is the rest, where there is such a list.
+  -- The new list of a step lies in the store after it, if the list of which it is the rest, where there is such a list, lies in the store
+  -- before it.
   pub lies-added :
-      (sh : Shared) (k : ℕ) → Lies (kept s side k) (sh .store) (sh .start k)
-      → (0 < soleStep s (suc k) → Lies (suc k ∷ kept s side (suc k)) (sh .store) (sh .start (soleStep s (suc k))))
+      (sh : Shared) (k : ℕ) → (0 < soleStep s (suc k) → Lies (suc k ∷ kept s side (suc k)) (sh .store) (sh .start (soleStep s (suc k))))
       → Lies (kept s side (suc k)) (sh .store ++ addedAt s side sh k) (startAt s side sh k)
-  lies-added sh k last whole =
+  lies-added sh k whole =
       by-test (empty new)
       (λ e. rw (start-empty sh k e, empty-nil new e) (lies-on [] (sh .store) _ _ (lies-empty (sh .store) _ (omega arith))))
       (λ e. by-test (ltb 0 (soleStep s (suc k)))
       (λ f. rw (start-sole sh k e f)
       (lies-on new (sh .store) _ _ (lies-behind (suc k) new (sh .store) _ (whole (ltb-true 0 (soleStep s (suc k)) f)))))
       (λ f. rw (start-joined sh k e f, added-joined sh k e f)
-      (lies-joined _ new (sh .store) (shared-end-law sh k (kept s side k) new last))))
+      (lies-joined _ new (sh .store) (shared-end-law sh new))))
     where
       new : List ℕ
       new = kept s side (suc k)
@@ -251,7 +219,7 @@ module _ (s : Planning) (side : Side) where
           | no h ↦
               let e : l ≡ suc k = omega arith in
               rw (e, store-next k, start-next k)
-              (lies-added (shared s side k) k (all-lie k k (omega arith) (omega arith)) λ p.
+              (lies-added (shared s side k) k λ p.
               let (b, q) = sole (suc k) (omega arith) kn p in
               rw (← q) (all-lie k (soleStep s (suc k)) (omega arith) (omega arith)))
         ]

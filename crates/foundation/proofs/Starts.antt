@@ -28,9 +28,8 @@ depends-on s s' side zero h = refl
 depends-on s s' side (suc k) h =
     let earlier : SameTo s s' side k =
     record { same-kept = λ l b. h .same-kept l (omega arith); same-sole = λ l b. h .same-sole l (omega arith) } in
-    let last : kept s side k ≡ kept s' side k = h .same-kept k (omega arith) in
     let new : kept s side (suc k) ≡ kept s' side (suc k) = h .same-kept (suc k) (omega arith) in
-    rw (depends-on s s' side k earlier, last, new, h .same-sole (suc k) (omega arith))
+    rw (depends-on s s' side k earlier, new, h .same-sole (suc k) (omega arith))
 
 -- ---- a value for each number of a run
 

@@ -101,7 +101,7 @@ marked =
     -- M1: "U lists are [3], [3,4], [4], []"; "L lists are [3], [4], [4], []"
     case (map (kept fourPlan upper) (upto 4) ++ map (kept fourPlan lower) (upto 4))
     ((3 ∷ []) ∷ (3 ∷ 4 ∷ []) ∷ (4 ∷ []) ∷ [] ∷ (3 ∷ []) ∷ (4 ∷ []) ∷ (4 ∷ []) ∷ [] ∷ [])
-    -- M2: U "store 3,4, starts 0,0,1,2"; L "store 3,4, starts 0,1,1,2"
+    -- M2: U "store 3,4, starts 0,0,1,2"; L "store 3,4, starts 0,1,1,2"; the same by document 01's rule for t and by ticket 5's
     ∷ case
     (subscripts fourPlan upper 4 ∷ startsStore fourPlan upper 4 ∷ subscripts fourPlan lower 4 ∷ startsStore fourPlan lower 4 ∷ [])
     ((3 ∷ 4 ∷ []) ∷ (0 ∷ 0 ∷ 1 ∷ 2 ∷ []) ∷ (3 ∷ 4 ∷ []) ∷ (0 ∷ 1 ∷ 1 ∷ 2 ∷ []) ∷ [])
@@ -149,9 +149,9 @@ also =
     ∷ case (told (showPlanned 3) (plannedWith (lent 3 (0 ∷ 1 ∷ 2 ∷ 3 ∷ []) (1 ∷ 1 ∷ 4 ∷ [])) 2 2)) (refusal 5 0)
     ∷ case (told (showPlanned 2) (plannedWith (lent 2 (0 ∷ 2 ∷ 3 ∷ []) (1 ∷ 0 ∷ 2 ∷ [])) 2 2)) (refusal 3 0)
     ∷ case (told (showPlanned 2) (plannedWith (lent 2 (0 ∷ 1 ∷ 2 ∷ []) (3 ∷ 2 ∷ [])) 2 2)) (refusal 3 0)
-    -- t is found against the list of k-1, here empty, and not against whatever else stands at the store's end
-    ∷ case (upperSharing (lent 4 (0 ∷ 1 ∷ 2 ∷ 4 ∷ 6 ∷ []) (1 ∷ 2 ∷ 3 ∷ 4 ∷ 1 ∷ 4 ∷ []))) ((4 ∷ 4 ∷ []) ∷ (0 ∷ 1 ∷ 1 ∷ 2 ∷ []) ∷ [])
-    -- and only if that list ends at the store's end: here it lies in the middle
+    -- t is found against the whole store's end, "whichever list put them there": step 3 shares with the list of step 1, that of step 2 being empty
+    ∷ case (upperSharing (lent 4 (0 ∷ 1 ∷ 2 ∷ 4 ∷ 6 ∷ []) (1 ∷ 2 ∷ 3 ∷ 4 ∷ 1 ∷ 4 ∷ []))) ((4 ∷ []) ∷ (0 ∷ 1 ∷ 0 ∷ 1 ∷ []) ∷ [])
+    -- and against nothing else: the list of step 3 lies in the middle, and step 4 shares nothing
     ∷ case (upperSharing (lent 5 (0 ∷ 1 ∷ 3 ∷ 6 ∷ 7 ∷ 9 ∷ []) (1 ∷ 2 ∷ 4 ∷ 1 ∷ 3 ∷ 4 ∷ 4 ∷ 1 ∷ 5 ∷ [])))
     ((3 ∷ 4 ∷ 5 ∷ 4 ∷ 5 ∷ []) ∷ (0 ∷ 3 ∷ 1 ∷ 4 ∷ 5 ∷ []) ∷ [])
     -- a cut to n steps is no whole run: the solution store has the right side, not the solution

@@ -28,29 +28,28 @@ pub record Shared : Type 0 where
   pub store : List ℕ
   pub start : ℕ → ℕ
 
--- Document 01: "if the list of k-1 ends at the store's end: find the longest t for which its last t subscripts equal the first t of the
--- new list (..). In every other case t is 0." Here `last` is the list of k-1 and `new` that of k. Before step 1 there is no list: an
--- empty one stands for it, of which t is 0.
-unfoldable pub sharedEnd : Shared → ℕ → List ℕ → List ℕ → ℕ
-sharedEnd sh previous last new = cond (eqb (sh .start previous + length last) (length (sh .store))) (overlap last new) 0
+-- Document 02, ticket 5: "t is the longest run for which the last t subscripts of the whole store equal the first t of the new list, whichever
+-- list put them there".
+unfoldable pub sharedEnd : Shared → List ℕ → ℕ
+sharedEnd sh new = overlap (sh .store) new
 
 -- The rule for step k, which is the step after `previous`. Document 01: "Empty list: its start is the store's end; nothing is added.
 -- Else, if S_k is one step l and no row was first met at k: its start is l's start plus 1; nothing is added. Else, (..) The start is the
--- end less t; the rest is added."
+-- end less t; the rest is added." Document 02, ticket 5: "The two earlier cases of document 01 still come first."
 unfoldable pub startAt : Planning → Side → Shared → ℕ → ℕ
 startAt s side sh previous =
     let new = kept s side (suc previous) in
     let sole = soleStep s (suc previous) in
     cond (empty new) (length (sh .store))
     (cond (ltb 0 sole) (sh .start sole + 1)
-    (length (sh .store) - sharedEnd sh previous (kept s side previous) new))
+    (length (sh .store) - sharedEnd sh new))
 
 unfoldable pub addedAt : Planning → Side → Shared → ℕ → List ℕ
 addedAt s side sh previous =
     let new = kept s side (suc previous) in
     cond (empty new) []
     (cond (ltb 0 (soleStep s (suc previous))) []
-    (drop (sharedEnd sh previous (kept s side previous) new) new))
+    (drop (sharedEnd sh new) new))
 
 -- a side's store and starts after step k
 unfoldable pub shared : Planning → Side → ℕ → Shared

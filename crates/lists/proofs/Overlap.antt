@@ -2,11 +2,12 @@
 use mathlib.Core.Path.{_≡_, refl, sym, _∙_}
 use mathlib.Core.Bool.{true, false≢true, true≢false}
 use mathlib.Core.List.{List, [], _∷_}
-use Prim.Native.Nat.{ℕ, suc, _-_, _≤_, _<_, zero-le, suc-le-suc}
+use Prim.Native.Nat.{ℕ, suc, _+_, _-_, _≤_, _<_, zero-le, suc-le-suc}
 use native.Mathlib.Nat.{sub-self}
 use native.Mathlib.Omega.{arith}
 use lib.Dec.{eqb, ltb, leb}
-use lib.ListN.{length, take, drop}
+use lib.ListN.{length, take, drop, getD}
+use lib.Seq.{getD-take, getD-drop}
 use borrow.Author.Tests.{eqb-true, eq-eqb, leb-true, leb-false, ltb-true, ltb-false}
 use Rattle.lists.specs.Sets.{begins, overlap}
 use Rattle.lists.proofs.Members.{by-test, and-left, and-right, and-both}
@@ -79,3 +80,13 @@ overlap-is t xs ys l m e none =
     by-test (ltb t (overlap xs ys))
     (λ c. absurd (none (overlap xs ys) (ltb-true t (overlap xs ys) c) (overlap-left xs ys) (overlap-right xs ys) (overlap-same xs ys)))
     (λ c. let k = ltb-false t (overlap xs ys) c in omega arith)
+
+-- an end and a beginning that are the same have the same numbers
+pub same-at : (xs ys : List ℕ) (t i : ℕ) → i < t → drop (length xs - t) xs ≡ take t ys → getD xs (length xs - t + i) 0 ≡ getD ys i 0
+same-at xs ys t i h e = sym (getD-drop (length xs - t) xs i 0) ∙ rw e (getD-take t ys i 0 h)
+
+-- and, if there are any, end in the same number
+pub last-same : (xs ys : List ℕ) (t : ℕ) → 0 < t → t ≤ length xs → drop (length xs - t) xs ≡ take t ys → getD xs (length xs - 1) 0 ≡ getD ys (t - 1) 0
+last-same xs ys t some l e =
+    let place : length xs - t + (t - 1) ≡ length xs - 1 = omega arith in
+    rw place at (same-at xs ys t (t - 1) (omega arith) e)

@@ -14,7 +14,7 @@ use borrow.Author.Tests.{eqb-true, eqb-false, eq-eqb, ne-eqb}
 use Rattle.lists.specs.Functions.{update, total, chain, padded}
 use Rattle.lists.specs.Sets.{member, Ascending, run, upto, indexOf}
 use Rattle.lists.proofs.Members.{by-test, member-head, member-tail, member-cases, not-member-nil, fails, not-in}
-use Rattle.lists.proofs.Order.{member-above}
+use Rattle.lists.proofs.Order.{member-low, member-above}
 
 module _ {ℓ} {A : Type ℓ} where
   -- a function changed at a place has the new value there
@@ -123,6 +123,25 @@ pub member-at : (i : ℕ) (xs : List ℕ) → i < length xs → member (getD xs 
 member-at i [] l = absurd (omega arith)
 member-at zero (y ∷ ys) l = member-head y ys
 member-at (suc i) (y ∷ ys) l = member-tail (getD ys i 0) y ys (member-at i ys (omega arith))
+
+-- the members of an ascending list do not fall
+pub ascending-at : (low i j : ℕ) (xs : List ℕ) → Ascending low xs → i ≤ j → j < length xs → getD xs i 0 ≤ getD xs j 0
+unfolding Ascending
+ascending-at low i j [] h l u = absurd (omega arith)
+ascending-at low zero zero (x ∷ xs) h l u = omega arith
+ascending-at low zero (suc j) (x ∷ xs) h l u =
+    let m : suc x ≤ getD xs j 0 = member-low (getD xs j 0) (suc x) xs (h .1) (member-at j xs (omega arith)) in
+    omega arith
+ascending-at low (suc i) zero (x ∷ xs) h l u = absurd (omega arith)
+ascending-at low (suc i) (suc j) (x ∷ xs) h l u = ascending-at (suc x) i j xs (h .1) (omega arith) (omega arith)
+
+-- and rise from one place to a later one
+pub ascending-below : (low i j : ℕ) (xs : List ℕ) → Ascending low xs → i < j → j < length xs → getD xs i 0 < getD xs j 0
+unfolding Ascending
+ascending-below low i j [] h l u = absurd (omega arith)
+ascending-below low i zero (x ∷ xs) h l u = absurd (omega arith)
+ascending-below low zero (suc j) (x ∷ xs) h l u = member-low (getD xs j 0) (suc x) xs (h .1) (member-at j xs (omega arith))
+ascending-below low (suc i) (suc j) (x ∷ xs) h l u = ascending-below (suc x) i j xs (h .1) (omega arith) (omega arith)
 
 -- no member of an ascending list is above the last
 pub member-last : (a x i : ℕ) (xs : List ℕ) → Ascending a xs → length xs ≡ suc i → member x xs ≡ true → x ≤ getD xs i 0

@@ -1,30 +1,32 @@
 -- One row joins the list of the step before: what the list of the step then is, and how much of it the store has already.
-use mathlib.Core.Bool.{true, false, or-comm}
+use mathlib.Core.Bool.{true, or-comm}
 use mathlib.Core.List.{List, [], _∷_, _++_, append-nil}
 use mathlib.Core.Path.{_≡_, refl, sym, ap, _∙_}
-use Prim.Native.Nat.{ℕ, zero, suc, _+_, _-_, _≤_, _<_}
+use Prim.Native.Nat.{ℕ, zero, suc, _+_, _-_, _*_, _^_, _≤_, _<_}
 use native.Mathlib.Nat.{sub-zero}
 use native.Mathlib.Omega.{arith}
 use lib.Dec.{eqb}
-use lib.ListN.{length, take, drop, getD, length-drop}
-use lib.Seq.{drop-drop, drop-at, take-all, length-take-le}
+use lib.ListN.{length, take, drop, getD, length-append, length-drop, List·getD-append}
+use lib.Seq.{drop-drop, drop-at, getD-drop, take-all, take-append-seam, length-take-le}
 use borrow.Author.Tests.{eqb-true, eq-eqb, ne-eqb}
 use Rattle.lists.specs.Functions.{empty}
-use Rattle.lists.specs.Sets.{member, Ascending, union, joinAll, begins, overlap}
-use Rattle.lists.proofs.Members.{by-test, member-head, member-union, and-both, union-nil-right}
+use Rattle.lists.specs.Sets.{member, Ascending, union, joinAll, overlap}
+use Rattle.lists.proofs.Members.{by-test, member-head, member-union, union-nil-right}
 use Rattle.lists.proofs.Order.{ascending-union, same-members}
+use Rattle.lists.proofs.Overlap.{last-same, overlap-is}
+use Rattle.lists.proofs.Places.{ascending-below, slice-part}
 use Rattle.foundation.specs.Pattern.{Lent, lent, patternOf, maxEntries}
 use Rattle.foundation.specs.Plan.{Side, lower, upper, brings}
 use Rattle.foundation.specs.PlanCall.{SideStores}
 use Rattle.foundation.specs.Subscripts.{kept, shared, sharedEnd, soleStep}
-use Rattle.store_place.specs.Places.{ListAt}
+use Rattle.store_place.specs.Places.{ListAsks, ListAt}
 use Rattle.store_lists.proofs.Chaining.{linked-end, linked-next}
 use Rattle.store_search.proofs.Passing.{behind-nothing, passed-none, passed-behind}
 use Rattle.plan_gather.specs.Ready.{planOf}
 use Rattle.plan_gather.specs.Gathering.{without, Within}
-use Rattle.plan_gather.specs.Contains.{used}
 use Rattle.plan_gather.specs.Steps.{StepOf, ChainsOf, SideAt}
-use Rattle.plan_gather.proofs.Contains.{Opened, opened-list, kept-within}
+use Rattle.plan_gather.proofs.Chaining.{handed-some}
+use Rattle.plan_gather.proofs.Contains.{Opened, opened-asks, opened-inside, opened-list, kept-within}
 use Rattle.plan_gather.proofs.Joining.{without-within}
 use Rattle.plan_gather.proofs.Gathering.{brings-within, from-rows-is, from-steps-is, handed-within, RowRead, row-turn, upper-brings}
 use Rattle.plan_share.specs.Adding.{RestOf}
@@ -55,37 +57,41 @@ unfolding without
 without-length k [] = omega arith
 without-length k (x ∷ xs) = by-test (eqb x k) (λ e. rw e (omega arith)) (λ e. rw e (omega arith))
 
--- a list begins with itself, whatever stands behind
-begins-append : (xs ys : List ℕ) → begins xs (xs ++ ys) ≡ true
-unfolding begins
-begins-append [] ys = refl
-begins-append (x ∷ xs) ys = and-both (eqb x x) (begins xs (xs ++ ys)) (eq-eqb x x refl) (begins-append xs ys)
+-- a list ends in the last of what is left of it without k, or, where nothing is left, in k itself
+ends-alike : (k : ℕ) (last rest : List ℕ) → 0 < length last
+    → getD last (length last - 1) 0 ≡ getD (k ∷ without k last ++ rest) (length (without k last)) 0
+unfolding without
+ends-alike k [] rest some = absurd (omega arith)
+ends-alike k (x ∷ xs) rest some =
+    let end : suc (length xs) - 1 ≡ length xs = omega arith in
+    let found = sym (List·getD-append (x ∷ xs) rest 0 (length xs) (omega arith)) in
+    by-test (eqb x k) (λ e. rw (e, end, ← eqb-true x k e) found) (λ e. rw (e, end) found)
 
-overlap-whole : (xs ys : List ℕ) → overlap xs (xs ++ ys) ≡ length xs
-unfolding overlap
-overlap-whole [] ys = refl
-overlap-whole (x ∷ xs) ys = rw (begins-append (x ∷ xs) ys)
+-- a place behind the first
+behind-first : (x : ℕ) (xs : List ℕ) (u : ℕ) → 0 < u → getD (x ∷ xs) u 0 ≡ getD xs (u - 1) 0
+behind-first x xs zero some = absurd (omega arith)
+behind-first x xs (suc u) some = let e : suc u - 1 ≡ u = omega arith in rw e
 
--- a list that has no k does not begin with one that begins with k
-begins-other : (k : ℕ) (xs ys : List ℕ) → Ascending (suc k) ys → begins (k ∷ xs) ys ≡ false
-unfolding begins Ascending
-begins-other k xs [] up = refl
-begins-other k xs (y ∷ ys) up =
-    let other : eqb k y ≡ false = ne-eqb k y (λ (e : k ≡ y). let l : suc k ≤ y = up .0 in omega arith) in
-    rw other
-
--- all of a list but its own step is how the next one begins: that is the longest such end
-overlap-behind : (k : ℕ) (last rest : List ℕ) → Ascending (suc k) (without k last ++ rest) → overlap last (without k last ++ rest) ≡ length (without k last)
-unfolding without overlap
-overlap-behind k [] rest up = refl
-overlap-behind k (x ∷ xs) rest up =
-    by-test (eqb x k)
-    (λ e.
-    let q : x ≡ k = eqb-true x k e in
-    let up′ : Ascending (suc k) (xs ++ rest) = rw e at up in
-    let other : begins (x ∷ xs) (xs ++ rest) ≡ false = rw q (begins-other k xs (xs ++ rest) up′) in
-    rw (e, other) (overlap-whole xs rest))
-    (λ e. rw e (overlap-whole (x ∷ xs) rest))
+-- Where a store ends in a list that is not empty, a list that goes on from it, without k, shares all of that with the store, be it nothing where
+-- that list is k alone: a longer beginning ends above the store's last subscript.
+overlap-behind : (k from : ℕ) (store last rest : List ℕ) → drop from store ≡ last → 0 < length last → Ascending (suc k) (without k last ++ rest)
+    → overlap store (without k last ++ rest) ≡ length (without k last)
+unfolding Ascending
+overlap-behind k from store last rest ends some up =
+    let w : List ℕ = without k last in
+    let new : List ℕ = w ++ rest in
+    let few = without-length k last in
+    let size : length last ≡ length store - from = ap length (sym ends) ∙ length-drop from store in
+    let more : length new ≡ length w + length rest = length-append w rest in
+    let place : length store - length w ≡ from + (length last - length w) = omega arith in
+    let same : drop (length store - length w) store ≡ take (length w) new =
+    rw (place, ← drop-drop (length last - length w) from store, ends, ← without-drop k last) (sym (take-append-seam w rest)) in
+    let end : getD store (length store - 1) 0 ≡ getD (k ∷ new) (length w) 0 =
+    rw (let at : length store - 1 ≡ from + (length last - 1) = omega arith in at, ← getD-drop from store (length last - 1) 0, ends) (ends-alike k last rest some) in
+    overlap-is (length w) store new (omega arith) (omega arith) same λ u h a b e.
+    let rises : getD (k ∷ new) (length w) 0 < getD (k ∷ new) u 0 = ascending-below k (length w) u (k ∷ new) (omega arith, up) h (omega arith) in
+    let at : getD (k ∷ new) u 0 ≡ getD new (u - 1) 0 = behind-first k new u (omega arith) in
+    omega (arith, last-same store new u (omega arith) a e)
 
 -- a list that stands behind another from a place on, both without k
 pub joined-as :
@@ -190,23 +196,25 @@ module _ {p : Lent} {n k row : ℕ} (j : JoinsLast p n k row) where
     row-within : Within (suc k) (p .n) (without k (brings (patternOf p) side row))
     row-within = without-within k (p .n) _ (brings-within p (j .step .ready) k (j .step .low) high side row row-met)
 
-    -- where the row only adds behind the list of step k-1, and that list ends its store, this is what the list of step k adds
+    -- Where the row only adds behind the list of step k-1, and that list ends its store, this is what the list of step k adds: by the rule for t too, since
+    -- that list is not empty, and what stands before it is not looked at.
     pub joined-rest :
-        (t from : ℕ) → (shared (planOf p) side (k - 1)) .start (k - 1) + length (kept (planOf p) side (k - 1)) ≡ used (planOf p) side (k - 1)
+        (t place from : ℕ) → drop place ((shared (planOf p) side (k - 1)) .store) ≡ kept (planOf p) side (k - 1)
         → t ≡ length (without k (kept (planOf p) side (k - 1)))
         → ((low : ℕ) → Ascending low (without k (kept (planOf p) side (k - 1)))
         → union (without k (kept (planOf p) side (k - 1))) (without k (brings (patternOf p) side row))
         ≡ without k (kept (planOf p) side (k - 1)) ++ drop from (brings (patternOf p) side row))
         → RestOf p side k t (drop from (brings (patternOf p) side row))
-    unfolding sharedEnd used
-    joined-rest t from ends size behind =
+    unfolding sharedEnd
+    joined-rest t place from ends size behind =
         let last : List ℕ = kept (planOf p) side (k - 1) in
         let new : kept (planOf p) side k ≡ without k last ++ drop from (brings (patternOf p) side row) =
         kept-joined ∙ union-turned (suc k) _ _ (row-within .ascending) (last-within .ascending) ∙ behind (suc k) (last-within .ascending) in
         let up : Ascending (suc k) (without k last ++ drop from (brings (patternOf p) side row)) =
         rw new at (kept-within p (j .step .ready) side k .ascending) in
+        let some : 0 < length last = handed-some p (j .step .ready) side k (k - 1) (j .step .low) step-handed in
         record {
-          shares = size ∙ rw (eq-eqb _ _ ends, new) (sym (overlap-behind k last _ up));
+          shares = size ∙ rw new (sym (overlap-behind k place _ last _ ends some up));
           is = rw (new, size) (sym (drop-at (without k last) (drop from (brings (patternOf p) side row)) (length (without k last)) refl));
         }
 
@@ -216,19 +224,36 @@ module _ {p : Lent} {n k row : ℕ} (j : JoinsLast p n k row) where
 pub row-of : {n : ℕ} {starts columns : List ℕ} {k row : ℕ} → JoinsLast (lent n starts columns) n k row → RowRead n starts columns row
 row-of {n} {starts} {columns} {k} {row} j = row-turn n starts columns (j .step .ready) k (j .step .low) (j .step .high) row (row-met j)
 
+-- the list of the step before
+module _ {p : Lent} {side : Side} {n k : ℕ} {i : SideStores} {end : ℕ} (later : 2 ≤ k) (at : SideAt p side n k i end) where
+  last-opens : Opened (planOf p) side (k - 1) i
+  last-opens = side-opens at (k - 1) (omega arith) (omega arith)
+
+  -- where it lies can be told
+  pub last-asks : length (i .subs) * 8 < 2 ^ 63 → ListAsks (i .starts) (i .slotStarts) (k - 1)
+  last-asks room =
+      let high = at .step .high in
+      opened-asks last-opens (omega arith) (omega (arith, at .contained .slots-size)) (omega (arith, at .contained .starts-size)) room
+
+  module _ {from to slot next : ℕ} (lies : ListAt (i .starts) (i .slotStarts) (k - 1) from to slot next) where
+    -- it lies in the store
+    pub last-inside : (from ≤ to) × (to ≤ length (i .subs))
+    last-inside = opened-inside last-opens lies
+
+    -- and is the store from its start on, if it ends there
+    last-at-end : to ≡ end → drop from ((shared (planOf p) side (k - 1)) .store) ≡ kept (planOf p) side (k - 1)
+    last-at-end ends =
+        let store : take to (i .subs) ≡ (shared (planOf p) side (k - 1)) .store = rw (ends, at .end-is) (at .contained .subs-begin) in
+        rw (← store) (sym (slice-part from to (i .subs) (last-inside .0))) ∙ opened-list last-opens lies
+
 -- what was found of the list of step k-1, which ends its store, and of what a row brings is what the list of step k adds
 pub added-as :
     {p : Lent} {side : Side} {n k row : ℕ} {i : SideStores} {from to slot next end : ℕ} (r : Added) (last more : List ℕ) → JoinsLast p n k row
     → SideAt p side n k i end → ListAt (i .starts) (i .slotStarts) (k - 1) from to slot next → to ≡ end → last ≡ take (to - from) (drop from (i .subs))
     → more ≡ brings (patternOf p) side row → JoinedAs r k last more → AddedAs r p side k row
-added-as {p} {side} {n} {k} {row} {i} (Behind t place) last more j at lies ends l m (a, b, behind) =
-    let later = j .later in
-    let o : Opened (planOf p) side (k - 1) i = side-opens at (k - 1) (omega arith) (omega arith) in
-    let start : getD (i .starts) (k - 1 - 1) 0 ≡ (shared (planOf p) side (k - 1)) .start (k - 1) = at .contained .starts-at (k - 1) (omega arith) (omega arith) in
-    let is : last ≡ kept (planOf p) side (k - 1) = l ∙ opened-list o lies in (
-      rw (← m) b,
-      joined-rest j side t place (rw (← start, ← o .count) (sym (lies .to-is) ∙ ends ∙ at .end-is)) (a ∙ rw is) (rw (is, m) at behind),
-    )
+added-as {from = from} (Behind t place) last more j at lies ends l m (a, b, behind) =
+    let is = l ∙ opened-list (last-opens (j .later) at) lies in
+    (rw (← m) b, joined-rest j _ t from place (last-at-end (j .later) at lies ends) (a ∙ rw is) (rw (is, m) at behind))
 added-as Elsewhere last more j at lies ends l m found = tt
 
 -- ---- what is written or looked for

@@ -15,7 +15,7 @@ use Rattle.lists.specs.Sets.{member, Ascending, run, upto, between, first, leas
 use Rattle.lists.proofs.Members.{by-test, not-member-nil, in-upto, upto-low, upto-high, kept-in, kept-passes, in-keep, in-between, between-low, between-high}
 use Rattle.lists.proofs.Order.{member-first, same-members-by, ascending-keep, ascending-between}
 use Rattle.lists.proofs.Kept.{leave-first}
-use Rattle.lists.proofs.Least.{least-member, least-above}
+use Rattle.lists.proofs.Least.{least-member, least-above, least-nonzero-member}
 use Rattle.lists.proofs.Once.{falling-once, ascending-once}
 use Rattle.lists.proofs.Places.{index-below, length-upto}
 use Rattle.lists.proofs.Counting.{total-cong, total-le, total-constant, total-within}
@@ -25,7 +25,8 @@ use Rattle.foundation.specs.Subscripts.{kept}
 use Rattle.foundation.specs.Slots.{slotsOf}
 use Rattle.foundation.specs.Facts.{sizesOf}
 use Rattle.foundation.proofs.PlanFacts.{plan-facts}
-use Rattle.foundation.proofs.Steps.{S-falls}
+use Rattle.foundation.proofs.Steps.{S-falls, joined}
+use Rattle.foundation.proofs.Listed.{two-members}
 use Rattle.foundation.proofs.Starts.{slots-next}
 use Rattle.foundation.proofs.Passing.{rows-before}
 use Rattle.foundation.proofs.ReadsBound.{first-ascends, sizes-within}
@@ -265,6 +266,23 @@ module _ (p : Lent) (ready : Ready p) where
   kept-size side l low high =
       let facts = plan-facts (patternOf p) (ready .plannable) in
       left-out l (list (planOf p) side l) (facts .ascending side l) (facts .own side l low high)
+
+  -- a step in S_k keeps something on both sides: its L has more than one member, and k is in its U
+  pub handed-some : (side : Side) (k l : ℕ) → 1 ≤ k → member l (planOf p .S k) ≡ true → 0 < length (kept (planOf p) side l)
+  unfolding planOf plan patternOf list
+  handed-some lower k l low m =
+      let r = joined (patternOf p) (p .n) l k low m in
+      omega (arith, kept-size lower l (r .0) (r .1), r .4)
+  handed-some upper k l low m =
+      let r = joined (patternOf p) (p .n) l k low m in
+      let u : List ℕ = planOf p .U l in
+      let above : member k u ≡ true = rw (r .3) at (least-nonzero-member l u (λ e. omega (arith, r .3))) in
+      omega (
+        arith,
+        kept-size upper l (r .0) (r .1),
+        two-members l k u (plan-facts (patternOf p) (ready .plannable) .own upper l (r .0) (r .1)) above
+            (λ e. omega (arith, r .2)),
+      )
 
   -- the two lists of all steps together have few members
   few-members : total (λ l. length (planOf p .L l) + length (planOf p .U l)) (upto (p .n)) ≤ 536870912

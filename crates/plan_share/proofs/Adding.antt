@@ -5,22 +5,22 @@ use mathlib.Core.Path.{_≡_, refl, sym, ap, _∙_}
 use mathlib.Core.Bool.{Bool, true, false}
 use Prim.Native.Nat.{ℕ, zero, suc, _+_, _-_, _≤_, _<_, _*_}
 use native.Mathlib.Omega.{arith}
-use native.Mathlib.Decide.{decLe}
 use native.Mathlib.Nat.{add-zero, sub-zero}
 use native.Mathlib.Numerals.{add-one}
 use lib.ListN.{length, take, drop, getD, length-drop}
 use lib.Seq.{take-all}
-use lib.Dec.{eqb, ltb}
-use borrow.Author.Tests.{eqb-true, lt-ltb}
+use lib.Dec.{ltb}
+use borrow.Author.Tests.{lt-ltb}
 use Rattle.lists.specs.Functions.{empty, span}
+use Rattle.lists.specs.Sets.{overlap}
 use Rattle.lists.proofs.Members.{by-test, empty-nil}
-use Rattle.lists.proofs.Overlap.{overlap-left, overlap-right}
+use Rattle.lists.proofs.Order.{ascending-weaken}
 use Rattle.foundation.specs.Plan.{Planning, Side}
 use Rattle.foundation.specs.PlanCall.{SideStores}
 use Rattle.foundation.specs.Subscripts.{kept, shared, startAt, addedAt, Shared, soleStep, sharedEnd}
 use Rattle.foundation.specs.Slots.{slotsOf}
 use Rattle.foundation.specs.Pattern.{Lent, patternOf}
-use Rattle.foundation.proofs.Opening.{start-empty, added-empty, start-joined, added-joined, start-sole, added-sole, all-lie}
+use Rattle.foundation.proofs.Opening.{shared-end-law, start-empty, added-empty, start-joined, added-joined, start-sole, added-sole, all-lie}
 use Rattle.foundation.proofs.Starts.{slots-next, slots-none}
 use Rattle.foundation.proofs.Theorems.{nothing-kept}
 use Rattle.foundation.proofs.Enough.{added-few}
@@ -28,11 +28,10 @@ use Rattle.plan_gather.specs.Contains.{used}
 use Rattle.plan_gather.specs.Ready.{Ready, planOf}
 use Rattle.plan_gather.specs.Gathering.{GrownIn}
 use Rattle.plan_gather.specs.Steps.{SideAt}
-use Rattle.plan_gather.proofs.Contains.{Opened, contains-opens, facts, kept-length, used-none, used-next}
-use Rattle.plan_share.specs.Sharing.{LastInside, lastShared}
+use Rattle.plan_gather.proofs.Contains.{Opened, contains-opens, facts, kept-within, kept-length, used-none, used-next}
+use Rattle.plan_share.specs.Sharing.{EndAsks}
 use Rattle.plan_share.specs.Adding.{NewList, RestOf, Writable}
 use Rattle.plan_share.specs.Sole.{SoleReady, soleStart, soleSlots}
-use Rattle.plan_share.proofs.Sharing.{last-none}
 use Rattle.plan_share.proofs.Sole.{sole-empty, sole-behind}
 
 -- ---- how much is shared
@@ -46,42 +45,38 @@ unfolding empty
 not-empty-length [] e = let z : _≡_ {A = ℕ} 0 1 = cc in omega arith
 not-empty-length (x ∷ xs) e = omega arith
 
-module _ (sh : Shared) (previous : ℕ) (last new : List ℕ) where
+module _ (sh : Shared) (new : List ℕ) where
   -- no more than the new list has
-  pub shared-new : sharedEnd sh previous last new ≤ length new
-  unfolding sharedEnd
-  shared-new = by-test (eqb (sh .start previous + length last) (length (sh .store))) (λ e. rw e (overlap-right last new)) (λ e. rw e (omega arith))
+  pub shared-new : sharedEnd sh new ≤ length new
+  shared-new = shared-end-law sh new .in-new
 
   -- no more than the store has
-  pub shared-old : sharedEnd sh previous last new ≤ length (sh .store)
-  unfolding sharedEnd
-  shared-old = by-test (eqb (sh .start previous + length last) (length (sh .store)))
-      (λ e. rw e (omega (arith, overlap-left last new, eqb-true (sh .start previous + length last) (length (sh .store)) e)))
-      (λ e. rw e (omega arith))
+  pub shared-old : sharedEnd sh new ≤ length (sh .store)
+  shared-old = shared-end-law sh new .in-store
 
 -- ---- a list that is no rest
 
 module _ (s : Planning) (side : Side) (j : ℕ) (not-sole : soleStep s (suc j) ≡ 0) where
   -- a list that is no rest starts before the store's end by as much as is shared
   joined-start :
-      startAt s side (shared s side j) j ≡ used s side j - sharedEnd (shared s side j) j (kept s side j) (kept s side (suc j))
+      startAt s side (shared s side j) j ≡ used s side j - sharedEnd (shared s side j) (kept s side (suc j))
   unfolding used
   joined-start =
       by-test (empty (kept s side (suc j)))
       (λ e.
-      let none : sharedEnd (shared s side j) j (kept s side j) (kept s side (suc j)) ≡ 0 =
-      omega (arith, shared-new (shared s side j) j (kept s side j) (kept s side (suc j)), empty-length _ e) in
+      let none : sharedEnd (shared s side j) (kept s side (suc j)) ≡ 0 =
+      omega (arith, shared-new (shared s side j) (kept s side (suc j)), empty-length _ e) in
       start-empty s side (shared s side j) j e ∙ rw none (omega arith))
       (λ e. start-joined s side (shared s side j) j e (ap (ltb 0) not-sole))
 
   -- such a list adds what it does not share
   joined-added :
-      addedAt s side (shared s side j) j ≡ drop (sharedEnd (shared s side j) j (kept s side j) (kept s side (suc j))) (kept s side (suc j))
+      addedAt s side (shared s side j) j ≡ drop (sharedEnd (shared s side j) (kept s side (suc j))) (kept s side (suc j))
   joined-added =
       by-test (empty (kept s side (suc j)))
       (λ e.
-      let none : sharedEnd (shared s side j) j (kept s side j) (kept s side (suc j)) ≡ 0 =
-      omega (arith, shared-new (shared s side j) j (kept s side j) (kept s side (suc j)), empty-length _ e) in
+      let none : sharedEnd (shared s side j) (kept s side (suc j)) ≡ 0 =
+      omega (arith, shared-new (shared s side j) (kept s side (suc j)), empty-length _ e) in
       added-empty s side (shared s side j) j e ∙ rw (none, empty-nil (kept s side (suc j)) e))
       (λ e. added-joined s side (shared s side j) j e (ap (ltb 0) not-sole))
 
@@ -117,48 +112,24 @@ module _ {p : Lent} {side : Side} {n k : ℕ} {i : SideStores} {end : ℕ} (at :
       let high = at .step .high in
       contains-opens (at .step .ready) (at .step .same-n) (omega arith) (at .contained) l low (omega arith)
 
-  -- the list of step k - 1, if there is one, lies in the store
-  pub last-inside : LastInside k i
-  last-inside =
-      let low = at .step .low in
-      let high = at .step .high in
+  -- the end of the used part can be compared with the new list
+  pub end-asks : (new : List ℕ) → new ≡ kept (planOf p) side k → EndAsks new (i .subs) end
+  end-asks new new-is =
       record {
-        step = low;
-        starts-size = omega (arith, at .contained .starts-size);
-        slots-size = omega (arith, at .contained .slots-size);
-        rising = λ later. side-opens (k - 1) (omega arith) (omega arith) .rising;
-        inside = λ later. side-opens (k - 1) (omega arith) (omega arith) .inside;
+        inside = rw (at .end-is) (at .contained .subs-room);
+        ascends = rw new-is (ascending-weaken 0 (suc k) _ (omega arith) (kept-within p (at .step .ready) side k .ascending));
       }
-
-  -- what the stores say of it is what is shared
-  last-shared :
-      (new : List ℕ) → lastShared k new i (used (planOf p) side (k - 1))
-      ≡ sharedEnd (shared (planOf p) side (k - 1)) (k - 1) (kept (planOf p) side (k - 1)) new
-  unfolding lastShared sharedEnd used
-  last-shared new =
-      let s : Planning = planOf p in
-      let low = at .step .low in
-      elim (decLe 2 k) [
-        | yes later ↦
-            let o : Opened s side (k - 1) i = side-opens (k - 1) (omega arith) (omega arith) in
-            let start : getD (i .starts) (k - 1 - 1) 0 ≡ (shared s side (k - 1)) .start (k - 1) = at .contained .starts-at (k - 1) (omega arith) (omega arith) in
-            rw (o .is, o .count, start)
-        | no first ↦
-            let e : k - 1 ≡ 0 = omega arith in
-            let none : sharedEnd (shared s side 0) 0 (kept s side 0) new ≡ 0 =
-            omega (arith, shared-old (shared s side 0) 0 (kept s side 0) new, used-none s side) in
-            last-none k new i _ (omega arith) ∙ rw e (sym none)
-      ]
 
   -- ---- a list of its own
 
-  module _ {t : ℕ} {new : List ℕ} (new-is : new ≡ kept (planOf p) side k) (shares : t ≡ lastShared k new i end) where
-    new-shares : t ≡ sharedEnd (shared (planOf p) side (k - 1)) (k - 1) (kept (planOf p) side (k - 1)) (kept (planOf p) side k)
-    new-shares = shares ∙ rw (at .end-is, new-is) (last-shared (kept (planOf p) side k))
+  module _ {t : ℕ} {new : List ℕ} (new-is : new ≡ kept (planOf p) side k) (shares : t ≡ overlap (take end (i .subs)) new) where
+    new-shares : t ≡ sharedEnd (shared (planOf p) side (k - 1)) (kept (planOf p) side k)
+    unfolding sharedEnd
+    new-shares = shares ∙ rw (at .end-is, at .contained .subs-begin, new-is)
 
     -- no more is shared than the list has
     pub shared-few : t ≤ length new
-    shared-few = rw (new-shares, new-is) (shared-new (shared (planOf p) side (k - 1)) (k - 1) (kept (planOf p) side (k - 1)) (kept (planOf p) side k))
+    shared-few = rw (new-shares, new-is) (shared-new (shared (planOf p) side (k - 1)) (kept (planOf p) side k))
 
     -- what the code cuts off is what the list adds
     pub new-rest : RestOf p side k t (take (length new - t) (drop t new))
@@ -169,7 +140,7 @@ module _ {p : Lent} {side : Side} {n k : ℕ} {i : SideStores} {end : ℕ} (at :
     -- what stands before and what is added are the whole list
     pub rest-length : t + length rest ≡ length (kept (planOf p) side k)
     rest-length =
-        let few = shared-new (shared (planOf p) side (k - 1)) (k - 1) (kept (planOf p) side (k - 1)) (kept (planOf p) side k) in
+        let few = shared-new (shared (planOf p) side (k - 1)) (kept (planOf p) side k) in
         let e : length rest ≡ length (kept (planOf p) side k) - t = ap length (found .is) ∙ simp length-drop in
         omega (arith, found .shares)
 
@@ -187,7 +158,7 @@ module _ {p : Lent} {side : Side} {n k : ℕ} {i : SideStores} {end : ℕ} (at :
           starts-size = omega (arith, at .contained .starts-size);
           slots-size = omega (arith, at .contained .slots-size);
           end-inside = rw (at .end-is) (at .contained .subs-room);
-          shared-end = omega (arith, found .shares, at .end-is, shared-old (shared s side (k - 1)) (k - 1) (kept s side (k - 1)) (kept s side k));
+          shared-end = omega (arith, found .shares, at .end-is, shared-old (shared s side (k - 1)) (kept s side k));
           small =
               omega (
                 arith,

@@ -1,61 +1,74 @@
--- What the stores say of the list before a new one.
+-- How much of a new list stands at the end of its store, and room for the rest.
 use mathlib.Core.List.{List}
 use mathlib.Core.Path.{_≡_, sym, _∙_}
-use Prim.Native.Nat.{ℕ, _+_, _-_, _*_, _^_, _≤_, _<_}
-use native.Mathlib.Nat.{sub-self, le-add-right, add-sub-cancel-left}
+use Prim.Native.Nat.{ℕ, _+_, _-_, _≤_, _<_}
+use native.Mathlib.Decide.{decLt}
 use native.Mathlib.Omega.{arith}
-use lib.Dec.{eqb}
-use lib.ListN.{length, take, drop, getD}
-use Rattle.lists.specs.Functions.{span}
+use lib.ListN.{length, take, drop, getD, length-drop}
+use lib.Seq.{ext-getD, getD-drop, getD-take, length-take-le}
 use mir.Syntax.{w64}
 use mir.Val.{Fits}
-use borrow.Author.Tests.{eq-eqb, ne-eqb}
-use Rattle.lists.specs.Sets.{overlap}
-use Rattle.lists.proofs.Members.{by-test}
-use Rattle.foundation.specs.PlanCall.{SideStores}
-use Rattle.store_place.specs.Places.{ListAsks, ListAt}
-use Rattle.plan_share.specs.Sharing.{LastInside, lastShared}
+use Rattle.lists.specs.Sets.{Ascending, overlap}
+use Rattle.lists.proofs.Overlap.{same-at, last-same, overlap-is}
+use Rattle.lists.proofs.Places.{ascending-below}
 
--- before step 2 nothing is shared
-pub last-none : (k : ℕ) (new : List ℕ) (i : SideStores) (end : ℕ) → k < 2 → lastShared k new i end ≡ 0
-unfolding lastShared overlap
-last-none k new i end h =
-    let first : k - 1 ≡ 0 = omega arith in
-    let none : span (i .slotStarts) (k - 1) ≡ 0 = rw first (sub-self (getD (i .slotStarts) 0 0)) in
-    rw none (by-test (eqb (getD (i .starts) (k - 1 - 1) 0 + 0) end) (λ e. rw e) (λ e. rw e))
+-- ---- the longest t
 
--- where the list of step k - 1 lies can be told
-pub last-asks : {k : ℕ} {i : SideStores} → LastInside k i → 2 ≤ k → length (i .subs) * 8 < 2 ^ 63 → ListAsks (i .starts) (i .slotStarts) (k - 1)
-last-asks h later room =
-    record {
-      low = omega arith;
-      in-slots = omega (arith, h .slots-size);
-      in-starts = omega (arith, h .starts-size);
-      rises = h .rising later;
-      fits = record { fits = omega (arith, h .inside later) };
-    }
+-- t is a length of both, and no longer end of the store is how the new list begins
+pub record Reached (store new : List ℕ) (t : ℕ) : Type 0 where
+  pub left : t ≤ length store
+  pub right : t ≤ length new
+  pub none : (u : ℕ) → t < u → u ≤ length store → u ≤ length new → drop (length store - u) store ≡ take u new → ⊥
 
-module _ (k : ℕ) (i : SideStores) {from to slot next : ℕ} (at : ListAt (i .starts) (i .slotStarts) (k - 1) from to slot next) where
-  -- it lies in the store
-  pub last-within : LastInside k i → 2 ≤ k → (from ≤ to) × (to ≤ length (i .subs))
-  last-within h later = rw (at .from-is, at .to-is) (le-add-right _ _, h .inside later)
+-- end and beginning that have the same numbers are the same
+same-all : (store new : List ℕ) (t : ℕ) → t ≤ length store → t ≤ length new
+    → ((k : ℕ) → k < t → getD store (length store - t + k) 0 ≡ getD new k 0) → drop (length store - t) store ≡ take t new
+same-all store new t l r same =
+    let d : length (drop (length store - t) store) ≡ t = simp length-drop (omega arith) in
+    let e : length (take t new) ≡ t = length-take-le t new r in
+    ext-getD 0 (drop (length store - t) store) (take t new) (cc) λ k h.
+    let q : k < t = omega arith in
+    getD-drop (length store - t) store k 0 ∙ same k q ∙ sym (getD-take t new k 0 q)
 
-  -- it does not end at the store's end
-  pub last-apart : (new : List ℕ) (end : ℕ) → (to ≡ end → ⊥) → lastShared k new i end ≡ 0
-  unfolding lastShared
-  last-apart new end h =
-      rw (ne-eqb (getD (i .starts) (k - 1 - 1) 0 + span (i .slotStarts) (k - 1)) end (λ e. h (at .to-is ∙ e)))
+module _ (store new : List ℕ) (t : ℕ) (reached : Reached store new t) where
+  -- a beginning that ends above the store's last subscript is ruled out
+  pub one-shorter : 0 < t → getD store (length store - 1) 0 < getD new (t - 1) 0 → Reached store new (t - 1)
+  one-shorter some above = record {
+    left = omega (arith, reached .left);
+    right = omega (arith, reached .right);
+    none = λ u m l r e.
+        elim (decLt t u) [
+          | yes q ↦ reached .none u q l r e
+          | no q ↦ let p : u ≡ t = omega arith in omega (arith, rw p at (last-same store new u (omega arith) l e))
+        ];
+  }
 
-  -- it ends at the store's end
-  pub last-joined : (new : List ℕ) (end : ℕ) → to ≡ end → lastShared k new i end ≡ overlap (take (to - from) (drop from (i .subs))) new
-  unfolding lastShared
-  last-joined new end h =
-      rw (
-        eq-eqb (getD (i .starts) (k - 1 - 1) 0 + span (i .slotStarts) (k - 1)) end (sym (at .to-is) ∙ h),
-        at .from-is,
-        at .to-is,
-        add-sub-cancel-left (getD (i .starts) (k - 1 - 1) 0) (span (i .slotStarts) (k - 1)),
-      )
+  -- none that differs makes t the overlap
+  pub found : (i : ℕ) → t ≤ i → ((k : ℕ) → k < i → getD store (length store - t + k) 0 ≡ getD new k 0) → t ≡ overlap store new
+  found i h same =
+      let e = same-all store new t (reached .left) (reached .right) (λ k q. same k (omega arith)) in
+      sym (overlap-is t store new (reached .left) (reached .right) e (reached .none))
+
+  -- no length is left
+  pub nothing-shared : t ≡ 0 → 0 ≡ overlap store new
+  nothing-shared e = sym e ∙ found 0 (omega arith) (λ k h. absurd (omega arith))
+
+  -- a number that differs, where the beginning does not end above the store's last subscript, leaves no length: a shorter one ends below it
+  pub none-left : (i : ℕ) → Ascending 0 new → i < t → getD new (t - 1) 0 ≤ getD store (length store - 1) 0
+      → (getD store (length store - t + i) 0 ≡ getD new i 0 → ⊥) → 0 ≡ overlap store new
+  none-left i up inside below differs =
+      sym (overlap-is 0 store new (omega arith) (omega arith) (same-all store new 0 (omega arith) (omega arith) (λ k h. absurd (omega arith))) λ u m l r e.
+      elim (decLt t u) [
+        | yes q ↦ reached .none u q l r e
+        | no q ↦
+            elim (decLt u t) [
+              | yes s ↦
+                  let rises : getD new (u - 1) 0 < getD new (t - 1) 0 =
+                  ascending-below 0 (u - 1) (t - 1) new up (omega arith) (omega (arith, reached .right)) in
+                  omega (arith, last-same store new u m l e)
+              | no s ↦ let p : u ≡ t = omega arith in differs (same-at store new t i inside (rw p at e))
+            ]
+      ])
 
 -- ---- the rest of a list
 

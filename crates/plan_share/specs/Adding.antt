@@ -18,10 +18,10 @@ pub record NewList (p : Lent) (side : Side) (n k : ℕ) (new : List ℕ) (i : Si
   pub new-is : new ≡ kept (planOf p) side k
   pub not-sole : soleStep (planOf p) k ≡ 0
 
--- Document 01, "Shared subscripts": "find the longest t (..). The start is the end less t; the rest is added": t members of the kept list of
--- step k stand at the store's end, and `rest` is what is added.
+-- Document 01, "Shared subscripts": "The start is the end less t; the rest is added": t members of the kept list of step k stand at the
+-- store's end, and `rest` is what is added.
 pub record RestOf (p : Lent) (side : Side) (k t : ℕ) (rest : List ℕ) : Type 0 where
-  pub shares : t ≡ sharedEnd (shared (planOf p) side (k - 1)) (k - 1) (kept (planOf p) side (k - 1)) (kept (planOf p) side k)
+  pub shares : t ≡ sharedEnd (shared (planOf p) side (k - 1)) (kept (planOf p) side k)
   pub is : rest ≡ drop t (kept (planOf p) side k)
 
 -- The rest of a list can be written at a store's end, or looked for there: `shared` of its members stand before it.

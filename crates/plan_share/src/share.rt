@@ -1,27 +1,31 @@
-// How much of a new list already stands at the end of the last one (report, section 3.1).
+// How much of a new list already stands at the end of its store (report, section 3.1, by document 02, ticket 5).
 ghost use mathlib.Core.Path.{_≡_};
-ghost use Rattle.lists.specs.Sets.{overlap};
-ghost use Rattle.answers.specs.Stores.{sideStores};
-ghost use Rattle.plan_share.specs.Sharing.{LastInside, lastShared};
+ghost use lib.ListN.{take};
+ghost use Rattle.lists.specs.Sets.{overlap, Ascending};
+ghost use Rattle.plan_share.specs.Sharing.{EndAsks};
 use answers::SubscriptPlace;
-use store_lists::list_at;
-use store_place::list_place;
 
-// The longest t for which the last t subscripts of one list equal the first t of the next.
-pub fn longest_shared(last: &[usize], new: &[usize]) -> usize
-    ensures { λ r. ⌜ r ≡ overlap (now (last .entry)) (now (new .entry)) ⌝ }
+// The longest t for which the last t subscripts of a store equal the first t of a new list. The list ascends, so only that t can be it whose last
+// member is the store's last subscript: a longer one ends above, a shorter one below. So there is at most one comparison more than the list has members.
+pub fn longest_shared(store: &[usize], new: &[usize]) -> usize
+    requires { ⌜ Ascending 0 (now new) ⌝ }
+    ensures { λ r. ⌜ r ≡ overlap (now (store .entry)) (now (new .entry)) ⌝ }
 {
-    let mut t = last.len();
+    let size = store.len();
+    let mut t = size;
     if new.len() < t {
         t = new.len();
     }
     'shorter: while 0 < t {
-        let from = last.len() - t;
+        if store[size - 1] < new[t - 1] {
+            t -= 1;
+            continue 'shorter;
+        }
+        let from = size - t;
         let mut i = 0;
         while i < t {
-            if last[from + i] != new[i] {
-                t -= 1;
-                continue 'shorter;
+            if store[from + i] != new[i] {
+                break 'shorter;
             }
             i += 1;
         }
@@ -30,24 +34,11 @@ pub fn longest_shared(last: &[usize], new: &[usize]) -> usize
     0
 }
 
-// How many subscripts a new list shares with the end of the store: the longest t if the list of step k-1 ends there, else 0.
-pub fn shared_end(
-    k: usize,
-    new: &[usize],
-    subs: &[usize],
-    starts: &[usize],
-    slots: &[usize],
-    end: SubscriptPlace,
-) -> usize
-    requires { ⌜ LastInside k (sideStores (now subs) (now starts) (now slots)) ⌝ }
-    ensures { λ r. ⌜ r ≡ lastShared k (now (new .entry)) (sideStores (now (subs .entry)) (now (starts .entry)) (now (slots .entry))) (end .0) ⌝ }
+// How many subscripts a new list shares with the end of the used part of its store, whichever list put them there.
+pub fn shared_end(new: &[usize], subs: &[usize], end: SubscriptPlace) -> usize
+    requires { ⌜ EndAsks (now new) (now subs) (end .0) ⌝ }
+    ensures { λ r. ⌜ r ≡ overlap (take (end .0) (now (subs .entry))) (now (new .entry)) ⌝ }
 {
-    if k < 2 {
-        return 0;
-    }
-    let last = list_place(starts, slots, k - 1);
-    if last.to.0 != end.0 {
-        return 0;
-    }
-    longest_shared(list_at(subs, last.from, last.to), new)
+    let at = end.0;
+    longest_shared(&subs[0..at], new)
 }

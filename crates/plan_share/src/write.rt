@@ -31,12 +31,13 @@ pub fn write_rest(
 {
     let at = end.0;
     let more = rest.len();
+    let count = shared + more;
     if subs.len() - at < more {
         return Placed::Short;
     }
     let next = append(rest, subs, at);
     starts[k - 1] = at - shared;
-    slots[k] = slots[k - 1] + (shared + more);
+    slots[k] = slots[k - 1] + count;
     Placed::End(SubscriptPlace(next))
 }
 

@@ -39,7 +39,7 @@ fn place(
         → Filled (planOf p) side n (k - 1) (length (now (subs .entry))) (sideStores (now (subs .entry)) (now (starts .entry)) (now (slots .entry)))
         → PlacedAs r p side n k (length (now (subs .entry))) (sideStores (now (subs .exit)) (now (starts .exit)) (now (slots .exit)))) ⌝ }
 {
-    let shared = shared_end(k, new, subs, starts, slots, end);
+    let shared = shared_end(new, subs, end);
     write_rest(k, shared, &new[shared..], subs, starts, slots, end)
 }
 

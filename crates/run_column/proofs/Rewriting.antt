@@ -14,14 +14,14 @@ use Rattle.lists.specs.Functions.{all}
 use Rattle.lists.specs.Sets.{member, upto, Ascending}
 use Rattle.lists.proofs.Members.{by-test, fails, not-member-nil, all-snoc, member-snoc, member-snoc-other}
 use Rattle.lists.proofs.Order.{member-low, ascending-upto}
-use Rattle.lists.proofs.Places.{member-at, length-upto, getD-mapped, not-before, upto-at, map-upto-at}
+use Rattle.lists.proofs.Places.{ascending-at, member-at, length-upto, getD-mapped, not-before, upto-at, map-upto-at}
 use Rattle.foundation.specs.Numbers.{plusZero, isZero, finite, product, difference}
 use Rattle.foundation.specs.Reference.{reduced}
 use Rattle.foundation.proofs.FloatSteps.{reduced-left}
 use Rattle.run_slots.specs.Flags.{flagged}
 use Rattle.run_slots.proofs.Flags.{flagged-more}
 use Rattle.run_slots.proofs.Mapped.{map-cong, set-map, map-upto-set}
-use Rattle.store_search.proofs.Places.{ascending-at, found-member}
+use Rattle.store_search.proofs.Places.{found-member}
 use Rattle.run_stretch.specs.Stretches.{Below, UpTo}
 use Rattle.run_column.specs.Column.{rewritten, Rewritten}
 

@@ -15,7 +15,7 @@ use Rattle.lists.specs.Functions.{all}
 use Rattle.lists.specs.Sets.{member, Ascending, indexOf}
 use Rattle.lists.proofs.Members.{by-test, fails, member-head, member-tail, not-member-nil, all-snoc, member-snoc, member-snoc-other}
 use Rattle.lists.proofs.Order.{member-low, ascending-weaken}
-use Rattle.lists.proofs.Places.{member-at, index-at, index-below, not-before, take-more}
+use Rattle.lists.proofs.Places.{ascending-at, member-at, index-at, index-below, not-before, take-more}
 use Rattle.foundation.specs.Numbers.{isZero, finite}
 use Rattle.foundation.specs.Plan.{Side, lower, upper}
 use Rattle.foundation.specs.PlanCall.{SideStores}
@@ -30,7 +30,6 @@ use Rattle.run_slots.specs.Shows.{Shows}
 use Rattle.run_slots.proofs.Flags.{flagged-more}
 use Rattle.run_slots.proofs.Lists.{partOf, patched, Lends, list-asks, list-lies, list-shows, list-written, list-lends}
 use Rattle.run_slots.proofs.Mapped.{map-cong}
-use Rattle.store_search.proofs.Places.{ascending-at}
 use Rattle.run_slots.proofs.Shows.{shows-same}
 use Rattle.run_stretch.specs.Stretches.{UpTo, reducedAll, gathered, Below}
 use Rattle.run_stretch.specs.Crossing.{Crossing, SharedCell}

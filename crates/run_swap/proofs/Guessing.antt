@@ -6,7 +6,7 @@ use native.Mathlib.Omega.{arith}
 use lib.ListN.{length, getD}
 use Rattle.lists.specs.Sets.{Ascending}
 use Rattle.store_search.specs.Places.{FirstFrom}
-use Rattle.store_search.proofs.Places.{ascending-at, ascending-below}
+use Rattle.lists.proofs.Places.{ascending-at, ascending-below}
 
 -- where x stands is the first place not below it
 pub found-first : (list : List ℕ) (x r : ℕ) → Ascending 0 list → r < length list → getD list r 0 ≡ x → FirstFrom list x r

@@ -9,7 +9,7 @@ use lib.Ieee.{Float, nan}
 use lib.ListN.{length, getD, set}
 use Rattle.lists.specs.Sets.{member, Ascending, indexOf}
 use Rattle.lists.proofs.Order.{ascending-weaken}
-use Rattle.lists.proofs.Places.{index-at, index-below}
+use Rattle.lists.proofs.Places.{ascending-below, index-at, index-below}
 use Rattle.foundation.specs.Plan.{Planning, Side, lower, upper}
 use Rattle.foundation.specs.PlanCall.{SideStores}
 use Rattle.foundation.specs.Subscripts.{kept}
@@ -18,7 +18,7 @@ use Rattle.run_slots.specs.Lists.{SlotAsks, SlotOf, SlotLeaves}
 use Rattle.store_search.specs.Places.{FirstFrom}
 use Rattle.run_slots.specs.Shows.{squareStores}
 use Rattle.run_slots.proofs.Grid.{above}
-use Rattle.store_search.proofs.Places.{ascending-below, found-member}
+use Rattle.store_search.proofs.Places.{found-member}
 use Rattle.run_swap.specs.Swapping.{Swapped, BeforeAsks, BeyondAsks}
 use Rattle.run_swap.proofs.Columns.{column-low, column-high, lower-slot, upper-slot, before-column, beyond-column}
 use Rattle.run_swap.proofs.Puts.{lower-inside, upper-inside}

@@ -9,27 +9,8 @@ use lib.ListN.{length, getD}
 use Rattle.lists.specs.Sets.{member, Ascending, indexOf}
 use Rattle.lists.proofs.Members.{fails}
 use Rattle.lists.proofs.Order.{member-low}
-use Rattle.lists.proofs.Places.{index-at, index-below, member-at}
+use Rattle.lists.proofs.Places.{ascending-at, ascending-below, index-at, index-below}
 use Rattle.store_search.specs.Places.{FirstFrom}
-
--- members do not fall
-pub ascending-at : (low i j : ℕ) (xs : List ℕ) → Ascending low xs → i ≤ j → j < length xs → getD xs i 0 ≤ getD xs j 0
-unfolding Ascending
-ascending-at low i j [] h l u = absurd (omega arith)
-ascending-at low zero zero (x ∷ xs) h l u = omega arith
-ascending-at low zero (suc j) (x ∷ xs) h l u =
-    let m : suc x ≤ getD xs j 0 = member-low (getD xs j 0) (suc x) xs (h .1) (member-at j xs (omega arith)) in
-    omega arith
-ascending-at low (suc i) zero (x ∷ xs) h l u = absurd (omega arith)
-ascending-at low (suc i) (suc j) (x ∷ xs) h l u = ascending-at (suc x) i j xs (h .1) (omega arith) (omega arith)
-
--- and rise from one place to a later one
-pub ascending-below : (low i j : ℕ) (xs : List ℕ) → Ascending low xs → i < j → j < length xs → getD xs i 0 < getD xs j 0
-unfolding Ascending
-ascending-below low i j [] h l u = absurd (omega arith)
-ascending-below low i zero (x ∷ xs) h l u = absurd (omega arith)
-ascending-below low zero (suc j) (x ∷ xs) h l u = member-low (getD xs j 0) (suc x) xs (h .1) (member-at j xs (omega arith))
-ascending-below low (suc i) (suc j) (x ∷ xs) h l u = ascending-below (suc x) i j xs (h .1) (omega arith) (omega arith)
 
 -- a member stands at the place found
 pub found-member :

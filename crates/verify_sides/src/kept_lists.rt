@@ -56,6 +56,6 @@ pub fn verify_list(
         → NewList p side n k (now (new .entry)) (sideStores (now (subs .entry)) (now (starts .entry)) (now (slots .entry))) (end .0)
         → VerifiedAs r p side n k (sideStores (now (subs .entry)) (now (starts .entry)) (now (slots .entry)))) ⌝ }
 {
-    let shared = shared_end(k, new, subs, starts, slots, end);
+    let shared = shared_end(new, subs, end);
     verify_rest(k, shared, &new[shared..], subs, starts, slots, end)
 }

@@ -13,7 +13,7 @@ use Rattle.foundation.specs.Cases.PlanCall.{fiveFields, stores, work, fi
 
 -- the plan of the five fields as it is lent: its counts, L's stores, U's stores
 abbrev pub rightCounts : List ℕ
-rightCounts = 5 ∷ 11 ∷ 2 ∷ 6 ∷ 4 ∷ 8 ∷ 38 ∷ []
+rightCounts = 5 ∷ 11 ∷ 3 ∷ 7 ∷ 6 ∷ 8 ∷ 44 ∷ []
 
 -- seven counts in the order of the listing
 abbrev pub countsFrom : List ℕ → Counts
@@ -32,10 +32,14 @@ abbrev pub side : List ℕ → List ℕ → List ℕ → SideStores
 side subs starts slotStarts = record { subs = subs; starts = starts; slotStarts = slotStarts }
 
 abbrev pub rightLower : SideStores
-rightLower = side (3 ∷ 5 ∷ []) (0 ∷ 2 ∷ 1 ∷ 1 ∷ 2 ∷ []) (0 ∷ 2 ∷ 2 ∷ 3 ∷ 4 ∷ 4 ∷ [])
+rightLower = side (3 ∷ 4 ∷ 5 ∷ []) (0 ∷ 2 ∷ 1 ∷ 2 ∷ 3 ∷ []) (0 ∷ 2 ∷ 3 ∷ 5 ∷ 6 ∷ 6 ∷ [])
 
 abbrev pub rightUpper : SideStores
-rightUpper = side (3 ∷ 4 ∷ 5 ∷ 3 ∷ 5 ∷ 5 ∷ []) (0 ∷ 3 ∷ 1 ∷ 5 ∷ 6 ∷ []) (0 ∷ 3 ∷ 5 ∷ 7 ∷ 8 ∷ 8 ∷ [])
+rightUpper = side (3 ∷ 4 ∷ 5 ∷ 3 ∷ 5 ∷ 4 ∷ 5 ∷ []) (0 ∷ 3 ∷ 5 ∷ 6 ∷ 7 ∷ []) (0 ∷ 3 ∷ 5 ∷ 7 ∷ 8 ∷ 8 ∷ [])
+
+-- the same lists, each shared with the list of k-1 alone, if that ends its store: document 01's rule before ticket 5
+abbrev pub sharedBefore : SideStores
+sharedBefore = side (3 ∷ 4 ∷ 5 ∷ 4 ∷ 5 ∷ []) (0 ∷ 2 ∷ 3 ∷ 4 ∷ 5 ∷ []) (0 ∷ 2 ∷ 3 ∷ 5 ∷ 6 ∷ 6 ∷ [])
 
 -- the answer to this plan lent for the five fields: its number, 0 if it is theirs
 abbrev pub holdOf : Lent → List ℕ → SideStores → SideStores → WorkSizes → Answer Planning
@@ -87,7 +91,7 @@ unfoldable pub lentPlanCases : List Case
 lentPlanCases =
     -- the plan of the five fields is held, and is their plan
     case (told planShown (holdOf fiveFields rightCounts rightLower rightUpper fittingSizes))
-    ((1 ∷ []) ∷ (3 ∷ 5 ∷ []) ∷ (0 ∷ 3 ∷ 1 ∷ 5 ∷ 6 ∷ []) ∷ (38 ∷ []) ∷ [])
+    ((1 ∷ []) ∷ (3 ∷ 4 ∷ 5 ∷ []) ∷ (0 ∷ 3 ∷ 5 ∷ 6 ∷ 7 ∷ []) ∷ (44 ∷ []) ∷ [])
     -- 9: "the lent plan differs from this pattern's plan in some count": each of the seven, one more
     ∷ row (map (λ i. withCounts (onemore i rightCounts)) (0 ∷ 1 ∷ 2 ∷ 3 ∷ 4 ∷ 5 ∷ 6 ∷ [])) (9 ∷ 9 ∷ 9 ∷ 9 ∷ 9 ∷ 9 ∷ 9 ∷ [])
     -- "start": each of L's, each of L's slots; each of U's, each of U's slots
@@ -96,17 +100,19 @@ lentPlanCases =
     ∷ row (map (λ i. upperStarts (onemore i (rightUpper .starts))) (0 ∷ 1 ∷ 2 ∷ 3 ∷ 4 ∷ [])) (9 ∷ 9 ∷ 9 ∷ 9 ∷ 9 ∷ [])
     ∷ row (map (λ i. upperSlotStarts (onemore i (rightUpper .slotStarts))) (0 ∷ 1 ∷ 2 ∷ 3 ∷ 4 ∷ 5 ∷ [])) (9 ∷ 9 ∷ 9 ∷ 9 ∷ 9 ∷ 9 ∷ [])
     -- "or used subscript": each of L's, of U's; what lies beyond is not used, and a store too short has not all
-    ∷ row (map (λ i. lowerSubs (onemore i (rightLower .subs))) (0 ∷ 1 ∷ [])) (9 ∷ 9 ∷ [])
-    ∷ row (map (λ i. upperSubs (onemore i (rightUpper .subs))) (0 ∷ 1 ∷ 2 ∷ 3 ∷ 4 ∷ 5 ∷ [])) (9 ∷ 9 ∷ 9 ∷ 9 ∷ 9 ∷ 9 ∷ [])
+    ∷ row (map (λ i. lowerSubs (onemore i (rightLower .subs))) (0 ∷ 1 ∷ 2 ∷ [])) (9 ∷ 9 ∷ 9 ∷ [])
+    ∷ row (map (λ i. upperSubs (onemore i (rightUpper .subs))) (0 ∷ 1 ∷ 2 ∷ 3 ∷ 4 ∷ 5 ∷ 6 ∷ [])) (9 ∷ 9 ∷ 9 ∷ 9 ∷ 9 ∷ 9 ∷ 9 ∷ [])
     ∷ row (lowerSubs (rightLower .subs ++ (7 ∷ [])) ∷ upperSubs (rightUpper .subs ++ (7 ∷ 7 ∷ [])) ∷ []) (0 ∷ 0 ∷ [])
-    ∷ row (lowerSubs (3 ∷ []) ∷ upperSubs (3 ∷ 4 ∷ 5 ∷ 3 ∷ 5 ∷ []) ∷ []) (9 ∷ 9 ∷ [])
+    ∷ row (lowerSubs (3 ∷ 4 ∷ []) ∷ upperSubs (3 ∷ 4 ∷ 5 ∷ 3 ∷ 5 ∷ 4 ∷ []) ∷ []) (9 ∷ 9 ∷ [])
+    -- document 02, ticket 5: "9 (..) judged by this rule for all plans": shared as before it, with the count that belongs to that and with the right one
+    ∷ row (heldWith (5 ∷ 11 ∷ 5 ∷ 7 ∷ 6 ∷ 8 ∷ 44 ∷ []) sharedBefore rightUpper ∷ withLower sharedBefore ∷ []) (9 ∷ 9 ∷ [])
     -- L's stores lent for U, and U's for L
     ∷ row (withLower rightUpper ∷ withUpper rightLower ∷ []) (9 ∷ 9 ∷ [])
     -- 6 before 9: a starts store of another length; a work store; with counts that differ too
     ∷ row
-    (lowerStarts (0 ∷ 2 ∷ 1 ∷ 1 ∷ [])
-    ∷ lowerSlotStarts (0 ∷ 2 ∷ 2 ∷ 3 ∷ 4 ∷ 4 ∷ 4 ∷ [])
-    ∷ upperStarts (0 ∷ 3 ∷ 1 ∷ 5 ∷ 6 ∷ 6 ∷ [])
+    (lowerStarts (0 ∷ 2 ∷ 1 ∷ 2 ∷ [])
+    ∷ lowerSlotStarts (0 ∷ 2 ∷ 3 ∷ 5 ∷ 6 ∷ 6 ∷ 6 ∷ [])
+    ∷ upperStarts (0 ∷ 3 ∷ 5 ∷ 6 ∷ 7 ∷ 7 ∷ [])
     ∷ upperSlotStarts (0 ∷ 3 ∷ 5 ∷ 7 ∷ 8 ∷ [])
     ∷ refusalNumber (holdOf fiveFields rightCounts rightLower rightUpper (work (4 ∷ []) [] []))
     ∷ heldWith (onemore 6 rightCounts) (side [] [] []) rightUpper

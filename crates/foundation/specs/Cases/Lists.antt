@@ -75,7 +75,7 @@ listCases =
     -- how a list begins: with none, with its first, with itself; not with more than it has, nor with another first or last
     ∷ row (flags (begins [] [] ∷ begins [] (1 ∷ []) ∷ begins (1 ∷ []) (1 ∷ 2 ∷ []) ∷ begins (1 ∷ 2 ∷ []) (1 ∷ 2 ∷ []) ∷ [])) (1 ∷ 1 ∷ 1 ∷ 1 ∷ [])
     ∷ row (flags (begins (1 ∷ 2 ∷ []) (1 ∷ []) ∷ begins (2 ∷ []) (1 ∷ 2 ∷ []) ∷ begins (1 ∷ 3 ∷ []) (1 ∷ 2 ∷ []) ∷ [])) (0 ∷ 0 ∷ 0 ∷ [])
-    -- "the longest t for which its last t subscripts equal the first t of the new list": all, some, the longer of two, none, of no list
+    -- document 02, ticket 5: "the longest run for which the last t subscripts of the whole store equal the first t of the new list": all, some, the longer of two, none, of no list
     ∷ row (overlap (3 ∷ 4 ∷ []) (3 ∷ 4 ∷ 6 ∷ []) ∷ overlap (1 ∷ 3 ∷ 4 ∷ []) (3 ∷ 4 ∷ 6 ∷ []) ∷ overlap (2 ∷ 1 ∷ 2 ∷ 1 ∷ 2 ∷ []) (1 ∷ 2 ∷ 1 ∷ 2 ∷ 9 ∷ []) ∷ []) (2 ∷ 2 ∷ 4 ∷ [])
     ∷ row (overlap (3 ∷ 4 ∷ []) (3 ∷ 6 ∷ []) ∷ overlap [] (3 ∷ []) ∷ overlap (3 ∷ []) [] ∷ []) (0 ∷ 0 ∷ 0 ∷ [])
     ∷ []

@@ -5,7 +5,7 @@ use Prim.Native.Nat.{ℕ, _+_}
 use lib.Dec.{eqb}
 use Rattle.foundation.specs.Pattern.{Lent, lent, Pattern, patternOf}
 use Rattle.foundation.specs.Plan.{Planning, Side, lower, upper, list, after, plan}
-use Rattle.foundation.specs.Subscripts.{kept, only, soleStep, shared, opened, startsStore, roomFault}
+use Rattle.foundation.specs.Subscripts.{kept, only, soleStep, Shared, sharedEnd, shared, opened, startsStore, roomFault}
 use Rattle.foundation.specs.Slots.{Slot, none, onDiagonal, inSide, slotIn, hasSlot, slotsOf, slotStarts, slotAt}
 use Rattle.foundation.specs.PlanCall.{subscripts}
 use Rattle.foundation.specs.Table.{Case, case, told, fourFields}
@@ -36,6 +36,26 @@ showSide p side = subscripts (plan (patternOf p)) side (p .n) ∷ startsStore (p
 -- planning of the seven fields, with so much room for L and for U
 abbrev pub roomFor : ℕ → ℕ → List (List ℕ)
 roomFor roomL roomU = told (λ s. (s .reads ∷ []) ∷ []) (roomFault (plan (patternOf sevenFields)) roomL roomU 1 7)
+
+-- rows {1,4}, {2}, {1,3}, {1,4}, {2,4,5}, {4,6}
+abbrev pub middleList : Lent
+middleList = lent 6 (0 ∷ 2 ∷ 3 ∷ 5 ∷ 7 ∷ 10 ∷ 12 ∷ []) (1 ∷ 4 ∷ 2 ∷ 1 ∷ 3 ∷ 1 ∷ 4 ∷ 2 ∷ 4 ∷ 5 ∷ 4 ∷ 6 ∷ [])
+
+-- rows {1}, {2}, {3}, {1,3,4}
+abbrev pub wholeAtEnd : Lent
+wholeAtEnd = lent 4 (0 ∷ 1 ∷ 2 ∷ 3 ∷ 6 ∷ []) (1 ∷ 2 ∷ 3 ∷ 1 ∷ 3 ∷ 4 ∷ [])
+
+-- rows {1,5}, {2}, {2,3}, {1,4}, {2,5}
+abbrev pub soleFirst : Lent
+soleFirst = lent 5 (0 ∷ 2 ∷ 3 ∷ 5 ∷ 7 ∷ 9 ∷ []) (1 ∷ 5 ∷ 2 ∷ 2 ∷ 3 ∷ 1 ∷ 4 ∷ 2 ∷ 5 ∷ [])
+
+-- rows {1,4,5}, {2,4}, {1,3}, {4}, {5}
+abbrev pub solePart : Lent
+solePart = lent 5 (0 ∷ 3 ∷ 5 ∷ 7 ∷ 8 ∷ 9 ∷ []) (1 ∷ 4 ∷ 5 ∷ 2 ∷ 4 ∷ 1 ∷ 3 ∷ 4 ∷ 5 ∷ [])
+
+-- a store, whatever lists put it there
+abbrev pub storeAlone : List ℕ → Shared
+storeAlone store = record { store = store; start = λ k. 0 }
 
 -- a plan with given lists, whatever they are
 abbrev pub withLists : (L U : ℕ → List ℕ) → Planning
@@ -103,13 +123,28 @@ subscriptCases =
     ∷ row (map (soleStep (plan (patternOf sevenFields))) (1 ∷ 2 ∷ 3 ∷ 4 ∷ 5 ∷ 6 ∷ 7 ∷ [])) (0 ∷ 0 ∷ 0 ∷ 2 ∷ 0 ∷ 0 ∷ 6 ∷ [])
     -- the one member of a list with one
     ∷ row (only [] ∷ only (4 ∷ []) ∷ only (4 ∷ 2 ∷ []) ∷ []) (0 ∷ 4 ∷ 0 ∷ [])
-    -- L's and U's subscripts, starts, and starts of slots. U: step 2 shares three with the end of step 1's list, step 4 has 2's start plus 1, step 5 finds its list of k-1 in the middle
+    -- L's and U's subscripts, starts, and starts of slots. U: step 2 shares three with the end of step 1's list, step 4 has 2's start plus 1, step 5 shares one with the list of step 3, which ends the store
     ∷ case (showSide sevenFields lower) ((4 ∷ 7 ∷ 6 ∷ 7 ∷ []) ∷ (0 ∷ 0 ∷ 2 ∷ 1 ∷ 3 ∷ 3 ∷ 4 ∷ []) ∷ (0 ∷ 0 ∷ 2 ∷ 3 ∷ 4 ∷ 5 ∷ 6 ∷ 6 ∷ []) ∷ [])
     ∷ case (showSide sevenFields upper)
-    ((3 ∷ 4 ∷ 5 ∷ 6 ∷ 7 ∷ 6 ∷ 6 ∷ 7 ∷ []) ∷ (0 ∷ 1 ∷ 5 ∷ 2 ∷ 6 ∷ 7 ∷ 8 ∷ []) ∷ (0 ∷ 4 ∷ 8 ∷ 9 ∷ 12 ∷ 14 ∷ 15 ∷ 15 ∷ []) ∷ [])
+    ((3 ∷ 4 ∷ 5 ∷ 6 ∷ 7 ∷ 6 ∷ 7 ∷ []) ∷ (0 ∷ 1 ∷ 5 ∷ 2 ∷ 5 ∷ 6 ∷ 7 ∷ []) ∷ (0 ∷ 4 ∷ 8 ∷ 9 ∷ 12 ∷ 14 ∷ 15 ∷ 15 ∷ []) ∷ [])
     -- L: step 2 shares one, step 4 has 2's start plus 1, step 5 shares with no list in the middle
     ∷ case (showSide sixFields lower) ((2 ∷ 4 ∷ 6 ∷ 5 ∷ 6 ∷ []) ∷ (0 ∷ 1 ∷ 3 ∷ 2 ∷ 4 ∷ 5 ∷ []) ∷ (0 ∷ 2 ∷ 4 ∷ 5 ∷ 6 ∷ 7 ∷ 7 ∷ []) ∷ [])
     ∷ case (showSide sixFields upper) ((2 ∷ 4 ∷ 5 ∷ 6 ∷ 5 ∷ 6 ∷ []) ∷ (0 ∷ 1 ∷ 4 ∷ 2 ∷ 5 ∷ 6 ∷ []) ∷ (0 ∷ 3 ∷ 6 ∷ 7 ∷ 9 ∷ 10 ∷ 10 ∷ []) ∷ [])
+    -- document 02, ticket 5: "the last t subscripts of the whole store equal the first t of the new list": none; one; all of the list; two of a longer list; none
+    -- where only the first stands there; of the empty list none
+    ∷ row (map (λ new. sharedEnd (storeAlone (3 ∷ 4 ∷ 5 ∷ 4 ∷ 5 ∷ [])) new) ((3 ∷ 4 ∷ []) ∷ (5 ∷ 6 ∷ []) ∷ (4 ∷ 5 ∷ []) ∷ (4 ∷ 5 ∷ 7 ∷ []) ∷ (4 ∷ 6 ∷ []) ∷ [] ∷ [])) (0 ∷ 1 ∷ 2 ∷ 2 ∷ 0 ∷ 0 ∷ [])
+    -- all of the store; of an empty store none; the longer of two
+    ∷ row (sharedEnd (storeAlone (4 ∷ 5 ∷ [])) (4 ∷ 5 ∷ 6 ∷ []) ∷ sharedEnd (storeAlone []) (4 ∷ []) ∷ sharedEnd (storeAlone (7 ∷ 7 ∷ [])) (7 ∷ 7 ∷ 8 ∷ []) ∷ []) (2 ∷ 0 ∷ 2 ∷ [])
+    -- "whichever list put them there": at step 4 of L the list of step 3 lies in the middle and that of step 2, which ends the store, is shared
+    ∷ case (showSide middleList lower) ((3 ∷ 4 ∷ 5 ∷ 6 ∷ []) ∷ (0 ∷ 2 ∷ 1 ∷ 2 ∷ 3 ∷ 4 ∷ []) ∷ (0 ∷ 2 ∷ 3 ∷ 4 ∷ 6 ∷ 7 ∷ 7 ∷ []) ∷ [])
+    -- the whole list of step 3 stands at the end, put there by step 1, though the list of step 2 is empty: nothing is added, and 7 and 8 cannot come there
+    ∷ case (showSide wholeAtEnd lower) ((4 ∷ []) ∷ (0 ∷ 1 ∷ 0 ∷ 1 ∷ []) ∷ (0 ∷ 1 ∷ 1 ∷ 2 ∷ 2 ∷ []) ∷ [])
+    ∷ case (showSide wholeAtEnd upper) ((3 ∷ 4 ∷ []) ∷ (0 ∷ 2 ∷ 1 ∷ 2 ∷ []) ∷ (0 ∷ 2 ∷ 2 ∷ 3 ∷ 3 ∷ []) ∷ [])
+    ∷ case (told (λ s. (s .reads ∷ []) ∷ []) (roomFault (plan (patternOf wholeAtEnd)) 1 2 1 4)) ((1 ∷ []) ∷ (21 ∷ []) ∷ [])
+    -- "The two earlier cases of document 01 still come first": the list of step 4 of U stands at the end, and starts at 1's start plus 1
+    ∷ case (showSide soleFirst upper) ((4 ∷ 5 ∷ 3 ∷ 5 ∷ []) ∷ (0 ∷ 2 ∷ 3 ∷ 1 ∷ 4 ∷ []) ∷ (0 ∷ 2 ∷ 4 ∷ 5 ∷ 6 ∷ 6 ∷ []) ∷ [])
+    -- and "nothing is added" where only a part of the list stands there, as at step 3
+    ∷ case (showSide solePart upper) ((3 ∷ 4 ∷ 5 ∷ 4 ∷ []) ∷ (0 ∷ 3 ∷ 1 ∷ 4 ∷ 4 ∷ []) ∷ (0 ∷ 3 ∷ 4 ∷ 6 ∷ 6 ∷ 6 ∷ []) ∷ [])
     -- "Empty list: its start is the store's end", though S_4 is step 1 alone, whose start plus 1 is 1
     ∷ case (showSide twoPairs lower) ((4 ∷ 3 ∷ []) ∷ (0 ∷ 1 ∷ 2 ∷ 2 ∷ []) ∷ (0 ∷ 1 ∷ 2 ∷ 2 ∷ 2 ∷ []) ∷ [])
     ∷ case (showSide twoPairs upper) ((4 ∷ 3 ∷ []) ∷ (0 ∷ 1 ∷ 2 ∷ 2 ∷ []) ∷ (0 ∷ 1 ∷ 2 ∷ 2 ∷ 2 ∷ []) ∷ [])
@@ -121,16 +156,16 @@ subscriptCases =
 
 unfoldable pub roomCases : List Case
 roomCases =
-    -- 7: "an L subscript does not fit"; 8: "a U subscript does not fit": 4 and 8 are enough, more is no fault
-    case (roomFor 4 8) ((1 ∷ []) ∷ (65 ∷ []) ∷ [])
+    -- 7: "an L subscript does not fit"; 8: "a U subscript does not fit": 4 and 7 are enough, more is no fault
+    case (roomFor 4 7) ((1 ∷ []) ∷ (65 ∷ []) ∷ [])
     ∷ case (roomFor 9 9) ((1 ∷ []) ∷ (65 ∷ []) ∷ [])
     -- one too few for L, for U
-    ∷ case (roomFor 3 8) ((0 ∷ 7 ∷ 5 ∷ []) ∷ [])
-    ∷ case (roomFor 4 7) ((0 ∷ 8 ∷ 5 ∷ []) ∷ [])
-    -- "7 and 8 go step by step, L first": both at step 5; 8 at step 3 before 7 at step 5; 7 at step 2 before 8 at step 5
     ∷ case (roomFor 3 7) ((0 ∷ 7 ∷ 5 ∷ []) ∷ [])
+    ∷ case (roomFor 4 6) ((0 ∷ 8 ∷ 5 ∷ []) ∷ [])
+    -- "7 and 8 go step by step, L first": both at step 5; 8 at step 3 before 7 at step 5; 7 at step 2 before 8 at step 5
+    ∷ case (roomFor 3 6) ((0 ∷ 7 ∷ 5 ∷ []) ∷ [])
     ∷ case (roomFor 3 5) ((0 ∷ 8 ∷ 3 ∷ []) ∷ [])
-    ∷ case (roomFor 0 7) ((0 ∷ 7 ∷ 2 ∷ []) ∷ [])
+    ∷ case (roomFor 0 6) ((0 ∷ 7 ∷ 2 ∷ []) ∷ [])
     -- 8 at the first step
     ∷ case (roomFor 4 3) ((0 ∷ 8 ∷ 1 ∷ []) ∷ [])
     -- no step left, none asked

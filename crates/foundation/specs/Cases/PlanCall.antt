@@ -7,9 +7,10 @@ use Rattle.foundation.specs.PlanCall.{Counts, SideStores, PlanStores, Wo
 use Rattle.foundation.specs.Table.{Case, case, told}
 use Rattle.foundation.specs.Cases.Show.{refusalNumber, row}
 
--- rows {1}, {2,3,5}, {1,3,4,5}, {4}, {1,5}: each of the seven counts is another number
+-- rows {1}, {2,3}, {1,3}, {1,3,4,5}, {2,5}: each of the seven counts is another number, and L's store is one that sharing with the list of k-1 alone would
+-- make longer
 abbrev pub fiveFields : Lent
-fiveFields = lent 5 (0 ∷ 1 ∷ 4 ∷ 8 ∷ 9 ∷ 11 ∷ []) (1 ∷ 2 ∷ 3 ∷ 5 ∷ 1 ∷ 3 ∷ 4 ∷ 5 ∷ 4 ∷ 1 ∷ 5 ∷ [])
+fiveFields = lent 5 (0 ∷ 1 ∷ 3 ∷ 5 ∷ 9 ∷ 11 ∷ []) (1 ∷ 2 ∷ 3 ∷ 1 ∷ 3 ∷ 1 ∷ 3 ∷ 4 ∷ 5 ∷ 2 ∷ 5 ∷ [])
 
 -- lent stores of these lengths, nines throughout: subscripts, starts and starts of slots
 abbrev pub ninesIn : ℕ → ℕ → ℕ → SideStores
@@ -23,7 +24,7 @@ work ofN ofNPlusOne ofEntries = record { ofN = ofN; ofNPlusOne = ofNPlusOne; ofE
 
 -- stores and work stores that fit, with more room for subscripts than is needed
 abbrev pub fitting : PlanStores
-fitting = stores (ninesIn 3 5 6) (ninesIn 8 5 6)
+fitting = stores (ninesIn 4 5 6) (ninesIn 8 5 6)
 
 abbrev pub fittingSizes : WorkSizes
 fittingSizes = work (5 ∷ 5 ∷ []) (6 ∷ 6 ∷ []) (11 ∷ 11 ∷ [])
@@ -61,27 +62,30 @@ byPattern p = refusalNumber (planned 1024 p (stores (ninesIn 0 0 0) (ninesIn 0 0
 unfoldable pub planCallCases : List Case
 planCallCases =
     -- "Plan: n, entries, L and U subscripts, L and U slots, reads."
-    case (answered fiveFields fitting fittingSizes) ((1 ∷ []) ∷ (5 ∷ 11 ∷ 2 ∷ 6 ∷ 4 ∷ 8 ∷ 38 ∷ []) ∷ [])
+    case (answered fiveFields fitting fittingSizes) ((1 ∷ []) ∷ (5 ∷ 11 ∷ 3 ∷ 7 ∷ 6 ∷ 8 ∷ 44 ∷ []) ∷ [])
     -- "result stores longer than needed are zero beyond": L's three stores, then U's
     ∷ case (leaves fiveFields fitting)
-    ((3 ∷ 5 ∷ 0 ∷ [])
-    ∷ (0 ∷ 2 ∷ 1 ∷ 1 ∷ 2 ∷ [])
-    ∷ (0 ∷ 2 ∷ 2 ∷ 3 ∷ 4 ∷ 4 ∷ [])
-    ∷ (3 ∷ 4 ∷ 5 ∷ 3 ∷ 5 ∷ 5 ∷ 0 ∷ 0 ∷ [])
-    ∷ (0 ∷ 3 ∷ 1 ∷ 5 ∷ 6 ∷ [])
+    ((3 ∷ 4 ∷ 5 ∷ 0 ∷ [])
+    ∷ (0 ∷ 2 ∷ 1 ∷ 2 ∷ 3 ∷ [])
+    ∷ (0 ∷ 2 ∷ 3 ∷ 5 ∷ 6 ∷ 6 ∷ [])
+    ∷ (3 ∷ 4 ∷ 5 ∷ 3 ∷ 5 ∷ 4 ∷ 5 ∷ 0 ∷ [])
+    ∷ (0 ∷ 3 ∷ 5 ∷ 6 ∷ 7 ∷ [])
     ∷ (0 ∷ 3 ∷ 5 ∷ 7 ∷ 8 ∷ 8 ∷ [])
     ∷ [])
     -- 7 and 8 with their steps; "Result stores are then zero throughout"
-    ∷ case (answered fiveFields (stores (ninesIn 1 5 6) (ninesIn 6 5 6)) fittingSizes) ((0 ∷ 7 ∷ 1 ∷ []) ∷ [])
-    ∷ case (answered fiveFields (stores (ninesIn 2 5 6) (ninesIn 5 5 6)) fittingSizes) ((0 ∷ 8 ∷ 4 ∷ []) ∷ [])
-    ∷ case (leaves fiveFields (stores (ninesIn 2 5 6) (ninesIn 5 5 6)))
-    ((0 ∷ 0 ∷ [])
+    ∷ case (answered fiveFields (stores (ninesIn 2 5 6) (ninesIn 7 5 6)) fittingSizes) ((0 ∷ 7 ∷ 2 ∷ []) ∷ [])
+    ∷ case (answered fiveFields (stores (ninesIn 3 5 6) (ninesIn 6 5 6)) fittingSizes) ((0 ∷ 8 ∷ 3 ∷ []) ∷ [])
+    ∷ case (leaves fiveFields (stores (ninesIn 3 5 6) (ninesIn 6 5 6)))
+    ((0 ∷ 0 ∷ 0 ∷ [])
     ∷ (0 ∷ 0 ∷ 0 ∷ 0 ∷ 0 ∷ [])
     ∷ (0 ∷ 0 ∷ 0 ∷ 0 ∷ 0 ∷ 0 ∷ [])
-    ∷ (0 ∷ 0 ∷ 0 ∷ 0 ∷ 0 ∷ [])
+    ∷ (0 ∷ 0 ∷ 0 ∷ 0 ∷ 0 ∷ 0 ∷ [])
     ∷ (0 ∷ 0 ∷ 0 ∷ 0 ∷ 0 ∷ [])
     ∷ (0 ∷ 0 ∷ 0 ∷ 0 ∷ 0 ∷ 0 ∷ [])
     ∷ [])
+    -- document 02, ticket 5: "7, 8 and 9 are judged by this rule for all plans": three L subscripts are enough, where sharing with the list of k-1 alone
+    -- would be 7 at step 3
+    ∷ case (answered fiveFields (stores (ninesIn 3 5 6) (ninesIn 7 5 6)) fittingSizes) ((1 ∷ []) ∷ (5 ∷ 11 ∷ 3 ∷ 7 ∷ 6 ∷ 8 ∷ 44 ∷ []) ∷ [])
     -- a refusal leaves stores of whatever length zero: 6 by stores of six lengths
     ∷ case (leaves fiveFields (stores (ninesIn 1 2 3) (ninesIn 4 6 0)))
     ((0 ∷ []) ∷ (0 ∷ 0 ∷ []) ∷ (0 ∷ 0 ∷ 0 ∷ []) ∷ (0 ∷ 0 ∷ 0 ∷ 0 ∷ []) ∷ (0 ∷ 0 ∷ 0 ∷ 0 ∷ 0 ∷ 0 ∷ []) ∷ [] ∷ [])

@@ -5,9 +5,7 @@ use native.Mathlib.Nat.{le-trans}
 use borrow.Author.Needs.{scaled-fits}
 use Rattle.lists.proofs.Small.{place-fits, before-fits, before-below}
 use Rattle.plan_gather.proofs.Gathering.{row-in-starts, upper-brings}
-use Rattle.plan_share.proofs.Sharing.{last-asks, last-within}
-use Rattle.plan_share.proofs.Adding.{last-inside}
-use Rattle.plan_append.proofs.Joining.{row-of, row-met, added-as}
+use Rattle.plan_append.proofs.Joining.{last-asks, last-inside, row-of, row-met, added-as}
 use Rattle.plan_append.proofs.appended.added_columns.Statement.{statement}
 use Rattle.plan_append.proofs.appended.added_columns.Tie as tie
 
@@ -32,7 +30,7 @@ last-list-requires : tie.Need-last-list-requires
 last-list-requires c κs =
     let start = c .before .before .before .before .before in
     let pre = start .pre in
-    last-asks (last-inside (pre .1)) (pre .0 .later) (start .good .1 .1 .1 .1 .1 .0 .1)
+    last-asks (pre .0 .later) (pre .1) (start .good .1 .1 .1 .1 .1 .0 .1)
 
 enum-known-first : tie.Need-enum-known-first
 enum-known-first c = c .match .keys1
@@ -68,7 +66,7 @@ list-at-requires c κs =
     let at-last-list = at-first .before .before in
     let pre = start-from-last-list at-last-list .pre in
     let last = rw (at-first .first .given .1) at (at-last-list .last-list .ensures) in
-    last-within _ _ (last .0) (last-inside (pre .1)) (pre .0 .later)
+    last-inside (pre .0 .later) (pre .1) (last .0)
 
 mul-joined-behind : tie.Need-mul-joined-behind
 mul-joined-behind c =

@@ -3,10 +3,8 @@ use native.Mathlib.Nat.{pos-of-ne-zero}
 use native.Mathlib.Omega.{arith}
 use borrow.Author.Count.{falls-down}
 use borrow.Author.Needs.{needs}
-use Rattle.plan_share.proofs.Sharing.{last-asks, last-within}
-use Rattle.plan_share.proofs.Adding.{last-inside}
 use Rattle.plan_append.specs.declared.appended.Added.the-variants.{Behind}
-use Rattle.plan_append.proofs.Joining.{own-itself, own-first, own-behind, own-brings, added-as}
+use Rattle.plan_append.proofs.Joining.{last-asks, last-inside, own-itself, own-first, own-behind, own-brings, added-as}
 use Rattle.plan_append.proofs.appended.added_own.Statement.{statement}
 use Rattle.plan_append.proofs.appended.added_own.Tie as tie
 
@@ -14,7 +12,7 @@ last-list-requires : tie.Need-last-list-requires
 last-list-requires c κs =
     let start = c .before .before .before in
     let pre = start .pre in
-    last-asks (last-inside (pre .2)) (pre .1 .later) (start .good .1 .1 .1 .0 .1)
+    last-asks (pre .1 .later) (pre .2) (start .good .1 .1 .1 .0 .1)
 
 enum-known-from : tie.Need-enum-known-from
 enum-known-from c = c .match .keys1
@@ -30,7 +28,7 @@ list-at-requires c κs =
     let at-last-list = c .before .before .before in
     let pre = at-last-list .before .before .before .before .pre in
     let last = rw (c .before .from .given .1) at (at-last-list .last-list .ensures) in
-    last-within _ _ (last .0) (last-inside (pre .2)) (pre .1 .later)
+    last-inside (pre .1 .later) (pre .2) (last .0)
 
 after-first-requires : tie.Need-after-first-requires
 after-first-requires c κs = tt

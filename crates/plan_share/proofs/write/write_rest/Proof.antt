@@ -15,6 +15,9 @@ start-from-writing-starts c = c .before .before .before .before .before .before 
 abbrev start-from-end2 : tie.After-slice-known5 → tie.Start
 start-from-end2 c = start-from-writing-starts (c .before)
 
+add-count : tie.Need-add-count
+add-count c = rest-small _ _ (c .before .before .before .before .pre .small)
+
 sub-if1 : tie.Need-sub-if1
 sub-if1 c = c .before .before .before .before .pre .end-inside
 
@@ -52,10 +55,7 @@ slice-read-slots : tie.Need-slice-read-slots
 slice-read-slots c = before-below (start-from-end2 c .pre .slots-size)
 
 add-slots : tie.Need-add-slots
-add-slots c = rest-small _ _ (start-from-end2 c .pre .small)
-
-add-slots-2 : tie.Need-add-slots-2
-add-slots-2 c = fits-under _ _ _ (start-from-end2 c .pre .small) tt
+add-slots c = fits-under _ _ _ (start-from-end2 c .pre .small) tt
 
 mul-slots-2 : tie.Need-mul-slots-2
 mul-slots-2 c =
@@ -83,6 +83,7 @@ pub write-rest-spec : {M : Type 1} → statement M
 write-rest-spec =
     tie.close
     (tie.spec
+    add-count
     sub-if1
     returns
     append-requires
@@ -94,7 +95,6 @@ write-rest-spec =
     mul-slots
     slice-read-slots
     add-slots
-    add-slots-2
     mul-slots-2
     slice-write-slots
     same-length

@@ -2,7 +2,7 @@
 -- are too short for the plan.
 use native.Mathlib.Nat.{le-refl}
 use Rattle.lists.proofs.Small.{place-fits}
-use Rattle.plan_share.proofs.Adding.{last-inside, shared-few, new-rest, rest-writable}
+use Rattle.plan_share.proofs.Adding.{end-asks, shared-few, new-rest, rest-writable}
 use Rattle.plan_sides.proofs.Placing.{rest-placed}
 use Rattle.plan_sides.proofs.place.place.Statement.{statement}
 use Rattle.plan_sides.proofs.place.place.Tie as tie
@@ -10,13 +10,13 @@ use Rattle.plan_sides.proofs.place.place.Tie as tie
 -- Paths: TARGET-from-SOURCE leads from a place of the walk back to an earlier one. Made by tools/name_paths.py from the names of the two places.
 
 abbrev start-from-shared-end : tie.After-shared-end → tie.Start
-start-from-shared-end c = c .before .before .before .before .before .before .before .before
+start-from-shared-end c = c .before .before .before .before .before .before
 
 abbrev write-rest-from-end : tie.After-slice-known6 → tie.After-write-rest
 write-rest-from-end c = c .before .before .before .before .before .before
 
 shared-end-requires : tie.Need-shared-end-requires
-shared-end-requires c κs = last-inside (c .before .before .before .before .before .before .before .pre .2 .at)
+shared-end-requires c κs = let h = c .before .before .before .before .before .pre .2 in end-asks (h .at) _ (h .new-is)
 
 mul-write-rest : tie.Need-mul-write-rest
 mul-write-rest c =

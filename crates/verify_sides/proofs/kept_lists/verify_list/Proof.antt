@@ -1,7 +1,7 @@
 -- `verify_list` meets its contract: what the list does not share is what it adds, which is looked for.
 use native.Mathlib.Nat.{le-refl}
 use Rattle.lists.proofs.Small.{place-fits}
-use Rattle.plan_share.proofs.Adding.{last-inside, shared-few, new-rest, rest-writable}
+use Rattle.plan_share.proofs.Adding.{end-asks, shared-few, new-rest, rest-writable}
 use Rattle.verify_sides.proofs.Verifying.{rest-verified}
 use Rattle.verify_sides.proofs.kept_lists.verify_list.Statement.{statement}
 use Rattle.verify_sides.proofs.kept_lists.verify_list.Tie as tie
@@ -12,7 +12,7 @@ abbrev start-from-shared-end : tie.After-shared-end → tie.Start
 start-from-shared-end c = c .before .before .before .before .before
 
 shared-end-requires : tie.Need-shared-end-requires
-shared-end-requires c κs = last-inside (c .before .before .before .before .pre .2 .at)
+shared-end-requires c κs = let h = c .before .before .before .before .pre .2 in end-asks (h .at) _ (h .new-is)
 
 mul-verify-rest : tie.Need-mul-verify-rest
 mul-verify-rest c =

@@ -2,6 +2,7 @@
 use mathlib.Core.Bool.{false≢true}
 use mathlib.Core.Path.{refl, sym, _∙_}
 use native.Mathlib.Nat.{le-refl}
+use native.Mathlib.Omega.{arith}
 use borrow.Author.Needs.{needs, scaled-fits, fits-under}
 use borrow.Author.Tests.{not-true, not-false}
 use Rattle.lists.proofs.Small.{before-fits, before-below, before-size}
@@ -41,8 +42,9 @@ shared-slice-read-if1 c =
 sub-if1-2 : tie.Need-sub-if1-2
 sub-if1-2 c = start-from-reading-if1 c .pre .shared-end
 
+-- by arithmetic, whichever test of the start comes out so: code that tests it less is refused for what it accepts
 returns : tie.Need-returns
-returns c = λ start slots rest. c .if1 .taken start
+returns c = λ start slots rest. omega (arith, c .if1 .taken, start)
 
 mul-if2 : tie.Need-mul-if2
 mul-if2 c =
