@@ -185,6 +185,44 @@ static void test_limits(void)
     dlm_plan_free(&own_plan);
 }
 
+static int same_numbers(dlm_numbers store, const size_t *numbers, size_t count)
+{
+    return store.length >= count && memcmp(store.at, numbers, count * sizeof *numbers) == 0;
+}
+
+/* Document 02, ticket 5, on rows {1}, {2}, {3}, {1,3,4}: the lists of step 3 stand at the stores' ends, put there by step 1, and that of step 2 is
+   empty. A plan that lays them anew, as by the rule before, is 9. */
+static void test_end_of_the_store(void)
+{
+    static const size_t own_starts[5] = {0, 1, 2, 3, 6};
+    static const size_t own_columns[6] = {1, 2, 3, 1, 3, 4};
+    static size_t anew[4][4] = {{4, 4}, {0, 1, 1, 2}, {3, 4, 4}, {0, 2, 2, 3}};
+    dlm_sizes sizes = dlm_sizes_for(4, 6, NULL);
+    dlm_pattern own = dlm_pattern_of(4, own_starts, own_columns, 6);
+    dlm_plan own_plan, before;
+    dlm_work own_work;
+    if (!dlm_plan_allocate(&own_plan, &sizes) || !dlm_work_allocate(&own_work, &sizes))
+        exit(EXIT_FAILURE);
+    expect(is(dlm_make_plan(&own, &own_plan, &own_work), 0, 0) && own_plan.counts.l_subscripts == 1 && own_plan.counts.u_subscripts == 2,
+           "lists at the store's end are shared");
+    expect(same_numbers(own_plan.l_subs, (const size_t[]){4}, 1) && same_numbers(own_plan.l_starts, (const size_t[]){0, 1, 0, 1}, 4), "L's store");
+    expect(same_numbers(own_plan.u_subs, (const size_t[]){3, 4}, 2) && same_numbers(own_plan.u_starts, (const size_t[]){0, 2, 1, 2}, 4), "U's store");
+    expect(is(dlm_verify_plan(&own, &own_plan, &own_work), 0, 0), "the plan is the pattern's");
+    before = own_plan;
+    before.l_subs = (dlm_numbers){anew[0], 2};
+    before.l_starts = (dlm_numbers){anew[1], 4};
+    before.u_subs = (dlm_numbers){anew[2], 3};
+    before.u_starts = (dlm_numbers){anew[3], 4};
+    before.counts.l_subscripts = 2;
+    before.counts.u_subscripts = 3;
+    expect(is(dlm_verify_plan(&own, &before, &own_work), 9, 0), "a plan by the rule before is 9");
+    own_plan.l_subs.length = 1;
+    own_plan.u_subs.length = 2;
+    expect(is(dlm_make_plan(&own, &own_plan, &own_work), 0, 0), "1 and 2 subscripts suffice");
+    dlm_work_free(&own_work);
+    dlm_plan_free(&own_plan);
+}
+
 /* ------------------------------------------------------------------ what the header does by itself */
 
 static void test_sizes(void)
@@ -351,6 +389,7 @@ int main(int count, char **words)
     expect(is(run_one_field(2), 0, 0), "value 2 is no refusal");
     test_tie();
     test_limits();
+    test_end_of_the_store();
     test_sizes();
     test_sentences();
     test_tally();

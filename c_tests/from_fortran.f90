@@ -17,6 +17,7 @@ program from_fortran
   call test_plan()
   call test_runs()
   call test_refused_plans()
+  call test_end_of_the_store()
   call test_tally()
   call test_job()
   print '(i0, a, i0, a)', tried, " tried, ", wrong, " wrong"
@@ -77,6 +78,27 @@ contains
     other%n = 3
     call expect(is(dlm_make_plan(other, none, work), 2, 0), "starts for another n are 2")
     call expect(is(dlm_run_largest(pattern, none, values, right_side, factor, work), 6, 0), "stores for another n are 6")
+  end subroutine
+
+  ! Document 02, ticket 5, on rows {1}, {2}, {3}, {1,3,4}: the lists of step 3 stand at the stores' ends, put there by step 1. A plan that lays them anew, as by
+  ! the rule before, is 9.
+  subroutine test_end_of_the_store()
+    type(dlm_pattern) :: own
+    type(dlm_plan) :: own_plan
+    type(dlm_work) :: own_work
+    own%n = 4
+    own%starts = [integer(dlm_size) :: 0, 1, 2, 3, 6]
+    own%columns = [integer(dlm_size) :: 1, 2, 3, 1, 3, 4]
+    call expect(is(dlm_make_plan(own, own_plan, own_work), 0, 0), "lists at the store's end are planned")
+    call expect(all(own_plan%l_subs == [4]) .and. all(own_plan%l_starts == [0, 1, 0, 1]), "shared in the L store")
+    call expect(all(own_plan%u_subs == [3, 4]) .and. all(own_plan%u_starts == [0, 2, 1, 2]), "shared in the U store")
+    call expect(is(dlm_verify_plan(own, own_plan, own_work), 0, 0), "that plan is the pattern's")
+    own_plan%l_subs = [integer(dlm_size) :: 4, 4]
+    own_plan%l_starts = [integer(dlm_size) :: 0, 1, 1, 2]
+    own_plan%u_subs = [integer(dlm_size) :: 3, 4, 4]
+    own_plan%u_starts = [integer(dlm_size) :: 0, 2, 2, 3]
+    own_plan%counts(3:4) = [2, 3]
+    call expect(is(dlm_verify_plan(own, own_plan, own_work), 9, 0), "a plan by the rule before is 9")
   end subroutine
 
   ! Sums above 2,147,483,647 are where a signed number of 32 bits ends.

@@ -161,7 +161,8 @@ contains
     plan%u_subs = plan%u_subs(1:plan%counts(4))
   end function
 
-  ! Says whether a plan, made here or elsewhere, is this pattern's: 0, 1 to 6 or 9.
+  ! Says whether a plan, made here or elsewhere, is this pattern's: 0, 1 to 6 or 9. A plan kept from before subscripts were shared with the end of the
+  ! whole store (document 02, ticket 5) is 9 where its lists lie otherwise: plan anew.
   function dlm_verify_plan(pattern, plan, work) result(answer)
     type(dlm_pattern), intent(in) :: pattern
     type(dlm_plan), intent(in) :: plan

@@ -426,7 +426,8 @@ static inline dlm_answer dlm_make_plan(const dlm_pattern *pattern, dlm_plan *pla
     return dlm_answer_in(answer);
 }
 
-/* Says whether a plan is this pattern's: no refusal, or 1 to 6 or 9. */
+/* Says whether a plan is this pattern's: no refusal, or 1 to 6 or 9. A plan kept from before subscripts were shared with the end of the whole
+   store (document 02, ticket 5) is 9 where its lists lie otherwise: plan anew. */
 static inline dlm_answer dlm_verify_plan(const dlm_pattern *pattern, const dlm_plan *plan, dlm_work *work)
 {
     size_t answer[2] = {0};

@@ -7,6 +7,7 @@ import collections
 import os
 import sys
 
+# the rules of tickets 5, 14 and 9, by now.py's names
 LANDED = {"share_end": True, "faint": False, "tall": False}
 Called = collections.namedtuple("Called", "answer stores")
 

@@ -76,7 +76,8 @@ class Plan:
 
     Every run first verifies that counts and stores are the plan of the pattern, and refuses with 9 (or 6, for a store of
     another length) if they are not. So `Plan(pattern, counts, stores)` may be given what was kept elsewhere: a plan that was
-    damaged on the way cannot lead to a wrong answer.
+    damaged on the way cannot lead to a wrong answer. One that was kept from before subscripts were shared with the end of the
+    whole store (document 02, ticket 5) is 9 where its lists lie otherwise: plan anew.
 
     A plan's work stores serve one run at a time. Threads may share a plan: a lock makes them wait for each other. Threads
     that shall run side by side take a `copy()` each. The arrays that are lent to a run must not be changed meanwhile.

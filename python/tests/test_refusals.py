@@ -88,6 +88,17 @@ class OfPlans(unittest.TestCase):
                 counts = self.plan.counts._replace(**{name: other})
                 self.assertEqual(self.refused(dalumiveth.Plan(self.plan.pattern, counts, self.plan.stores)), (9, 0), name)
 
+    def test_9_by_the_rule_before(self):
+        """Document 02, ticket 5: the lists of the third step stand at the stores' ends, put there by the first; laid anew they are another plan."""
+        plan = dalumiveth.plan(csr(4, [[0], [1], [2], [0, 2, 3]], np.ones(6)))
+        self.assertEqual(tuple(plan.counts), (4, 6, 1, 2, 2, 3, 21))
+        self.assertEqual([store.tolist() for store in plan.stores], [[4], [0, 1, 0, 1], [0, 1, 1, 2, 2], [3, 4], [0, 2, 1, 2], [0, 2, 2, 3, 3]])
+        self.assertIsNone(refusal_of(plan.verify))
+        anew = {"l_subs": [4, 4], "l_starts": [0, 1, 1, 2], "u_subs": [3, 4, 4], "u_starts": [0, 2, 2, 3]}
+        stores = plan.stores._replace(**{name: np.array(store, dtype=np.uint64) for name, store in anew.items()})
+        counts = plan.counts._replace(l_subscripts=2, u_subscripts=3)
+        self.assertEqual(refusal_of(dalumiveth.Plan(plan.pattern, counts, stores).verify), (9, 0))
+
     def test_9_other_pattern(self):
         self.assertEqual(self.refused(self.plan, diagonal(4)), (9, 0))
 
