@@ -1,4 +1,5 @@
-/* The same job on a full n by n square, by the rules of document 01 ("Elimination"): what one would write in C without a plan.
+/* The same job on a full n by n square, by the rules of document 01 ("Elimination") and of document 02's ticket 14: what one would write in C
+   without a plan.
 
    The columns of the pivot row that are not zero are listed once a step. Where they fill at least a quarter of the stretch from the first to
    the last of them, the inner loop runs over the stretch and chooses by value, which the compiler can vectorize; else it runs over the list.
@@ -8,6 +9,8 @@
 #include <math.h>
 #include <stdlib.h>
 #include <string.h>
+
+#define LEAST_PIVOT 0x1p-1022 /* the least magnitude of a pivot */
 
 static struct {
     size_t n, stride, updates, *pivots, *listed; /* rows stand `stride` numbers apart */
@@ -41,7 +44,7 @@ static void lay_out(const struct pattern *p)
     memcpy(sq.right, p->right, p->n * sizeof(double));
 }
 
-/* The largest magnitude in column k from row k on, the lowest row if equal. */
+/* The largest magnitude in column k from row k on, the lowest row if equal. If any may be a pivot, this one may. */
 static size_t largest(size_t k)
 {
     size_t best = k;
@@ -117,7 +120,7 @@ static int step(size_t k)
     sq.pivots[k] = p + 1;
     exchange(k, p);
     double pivot = sq.at[k * sq.stride + k];
-    if (pivot == 0.0)
+    if (fabs(pivot) < LEAST_PIVOT)
         return 13;
     size_t count = list_pivot_row(k);
     for (size_t i = k + 1; i < sq.n; i++) {

@@ -108,13 +108,12 @@ static void test_short_stores(void)
 /* ------------------------------------------------------------------ small and large systems */
 
 /* One field: the subscript and slot stores have no places and no memory. */
-static dlm_answer run_one_field(double value)
+static dlm_answer run_one_field(double value, double right)
 {
     static const size_t one_start[2] = {0, 1};
     static const size_t one_column[1] = {1};
-    static const double one_right[1] = {6};
     dlm_pattern one = dlm_pattern_of(1, one_start, one_column, 1);
-    dlm_system system = dlm_system_of(&value, 1, one_right, 1);
+    dlm_system system = dlm_system_of(&value, 1, &right, 1);
     size_t numbers[14] = {0};
     double reals[5] = {0};
     dlm_plan own_plan = {{0, 0, 0, 0, 0, 0, 0}, {NULL, 0}, {numbers, 1}, {numbers + 1, 2}, {NULL, 0}, {numbers + 3, 1}, {numbers + 4, 2}};
@@ -133,31 +132,69 @@ static dlm_answer run_one_field(double value)
     own_work.spare.length = 1;
     expect(is(dlm_make_plan(&one, &own_plan, &own_work), 0, 0), "one field is planned without subscript stores");
     answer = dlm_run_largest(&one, &own_plan, &system, dlm_whole(), &own_factor, &own_work);
-    expect(own_factor.x.at[0] == (answer.refusal == DLM_NONE ? 6 / value : 0), "the offset of one field");
+    expect(own_factor.x.at[0] == (answer.refusal == DLM_NONE ? right / value : 0), "the offset of one field");
     return answer;
 }
 
-/* M10: of 2 and -2 the upper row is chosen. */
-static void test_tie(void)
+/* Two fields with given entries in column 1, by the largest entry or, where `first` is not 0, by a list that begins with it. Leaves the pivot
+   row of step 1 in `chosen`. */
+static dlm_answer run_two_fields(double upper, double lower, size_t first, size_t *chosen)
 {
     static const size_t two_starts[3] = {0, 2, 4};
     static const size_t two_columns[4] = {1, 2, 1, 2};
-    static const double two_values[4] = {2, 1, -2, 1};
     static const double two_right[2] = {1, 1};
+    double two_values[4];
+    size_t two_rows[2];
     dlm_pattern two = dlm_pattern_of(2, two_starts, two_columns, 4);
     dlm_system system = dlm_system_of(two_values, 4, two_right, 2);
     dlm_sizes sizes = dlm_sizes_for(2, 4, NULL);
     dlm_plan own_plan;
     dlm_work own_work;
     dlm_factor own_factor;
+    dlm_answer answer;
+    two_values[0] = upper;
+    two_values[2] = lower;
+    two_values[1] = 1;
+    two_values[3] = 3;
+    two_rows[0] = first;
+    two_rows[1] = 2;
     if (!dlm_plan_allocate(&own_plan, &sizes) || !dlm_work_allocate(&own_work, &sizes) || !dlm_factor_allocate(&own_factor, &sizes))
         exit(EXIT_FAILURE);
     expect(is(dlm_make_plan(&two, &own_plan, &own_work), 0, 0), "two fields are planned");
-    expect(is(dlm_run_largest(&two, &own_plan, &system, dlm_whole(), &own_factor, &own_work), 0, 0) && own_factor.pivots.at[0] == 1,
-           "M10: 2 and -2 choose the upper row");
+    if (first == 0)
+        answer = dlm_run_largest(&two, &own_plan, &system, dlm_whole(), &own_factor, &own_work);
+    else
+        answer = dlm_run_listed(&two, &own_plan, &system, two_rows, 2, dlm_whole(), &own_factor, &own_work);
+    *chosen = own_factor.pivots.at[0];
     dlm_factor_free(&own_factor);
     dlm_work_free(&own_work);
     dlm_plan_free(&own_plan);
+    return answer;
+}
+
+static void test_tie(void)
+{
+    size_t chosen;
+    expect(is(run_two_fields(2, -2, 0, &chosen), 0, 0) && chosen == 1, "M10: 2 and -2 choose the upper row");
+}
+
+/* Document 02, ticket 14: 2^-1022 may be a pivot, the largest number below it may not, of either sign. */
+static void test_least_pivot(void)
+{
+    static const double limit = 0x1p-1022;
+    static const double faint = 0x0.fffffffffffffp-1022;
+    size_t chosen;
+    int sign;
+    for (sign = -1; sign <= 1; sign += 2) {
+        expect(is(run_one_field(sign * limit, limit), 0, 0), "the value 2^-1022 is solved");
+        expect(is(run_one_field(sign * faint, limit), 13, 1), "the largest number below it is 13 at step 1");
+        expect(is(run_two_fields(sign * faint, limit, 0, &chosen), 0, 0) && chosen == 2, "a row at the limit is exchanged with a fainter one");
+        expect(is(run_two_fields(limit, sign * limit, 0, &chosen), 0, 0) && chosen == 1, "of two rows at the limit the upper is chosen");
+        expect(is(run_two_fields(faint, sign * faint, 0, &chosen), 13, 1) && chosen == 0, "no row at the limit is 13");
+        expect(is(run_two_fields(sign * faint, limit, 1, &chosen), 13, 1) && chosen == 0, "a list that names the fainter row is 13");
+        expect(is(run_two_fields(sign * faint, limit, 2, &chosen), 0, 0) && chosen == 2, "a list that names the row at the limit is not");
+        expect(is(run_two_fields(sign * limit, 1, 1, &chosen), 0, 0) && chosen == 1, "nor with a larger row beside it");
+    }
 }
 
 /* n = 1,024 is planned, 1,025 is 1. */
@@ -274,6 +311,8 @@ static void test_sentences(void)
     for (number = 0; number <= 19; number++)
         expect(strcmp(dlm_sentence(number), dlm_sentence(20)) != 0, "every refusal has a sentence");
     expect(strcmp(dlm_sentence(DLM_DIAGONAL), "a row lacks its diagonal") == 0, "the sentence of 5");
+    expect(strcmp(dlm_sentence(DLM_NO_PIVOT), "no row from the step on, or not the listed row, has an entry of magnitude at least 2^-1022 in the "
+                                              "step's column") == 0, "the sentence of 13");
     expect(strcmp(dlm_sentence(SIZE_MAX), dlm_sentence(20)) == 0, "other numbers have none");
 }
 
@@ -385,9 +424,10 @@ int main(int count, char **words)
     test_conversion();
     test_allocation();
     free_four_fields();
-    expect(is(run_one_field(0), 13, 1), "M9: value 0 is 13 at step 1");
-    expect(is(run_one_field(2), 0, 0), "value 2 is no refusal");
+    expect(is(run_one_field(0, 6), 13, 1), "M9: value 0 is 13 at step 1");
+    expect(is(run_one_field(2, 6), 0, 0), "value 2 is no refusal");
     test_tie();
+    test_least_pivot();
     test_limits();
     test_end_of_the_store();
     test_sizes();

@@ -18,6 +18,7 @@ program from_fortran
   call test_runs()
   call test_refused_plans()
   call test_end_of_the_store()
+  call test_least_pivot()
   call test_tally()
   call test_job()
   print '(i0, a, i0, a)', tried, " tried, ", wrong, " wrong"
@@ -99,6 +100,45 @@ contains
     own_plan%u_starts = [integer(dlm_size) :: 0, 2, 2, 3]
     own_plan%counts(3:4) = [2, 3]
     call expect(is(dlm_verify_plan(own, own_plan, own_work), 9, 0), "a plan by the rule before is 9")
+  end subroutine
+
+  ! Document 02, ticket 14: 2^-1022 may be a pivot, the largest number below it may not, of either sign.
+  subroutine test_least_pivot()
+    type(dlm_pattern) :: one
+    type(dlm_plan) :: own_plan
+    real(dlm_real) :: limit, faint
+    integer :: way
+    limit = transfer(4503599627370496_dlm_size, limit)
+    faint = transfer(4503599627370495_dlm_size, faint)
+    one%n = 1
+    one%starts = [integer(dlm_size) :: 0, 1]
+    one%columns = [integer(dlm_size) :: 1]
+    call expect(is(dlm_make_plan(one, own_plan, work), 0, 0), "one field is planned")
+    do way = -1, 1, 2
+      call expect(is(dlm_run_largest(one, own_plan, [way * limit], [limit], factor, work), 0, 0), "the value 2^-1022 is solved")
+      call expect(factor%x(1) == way, "and its offset is right")
+      call expect(is(dlm_run_largest(one, own_plan, [way * faint], [limit], factor, work), 13, 1), "the largest below it is 13")
+      call test_faint_above([way * faint, 1.0_dlm_real, limit, 1.0_dlm_real])
+    end do
+  end subroutine
+
+  ! Two fields: the entry of the upper row in column 1 is below the limit, that of the lower one reaches it.
+  subroutine test_faint_above(entries)
+    real(dlm_real), intent(in) :: entries(4)
+    real(dlm_real), parameter :: ones(2) = 1
+    type(dlm_pattern) :: two
+    type(dlm_plan) :: own_plan
+    type(dlm_answer) :: answer
+    two%n = 2
+    two%starts = [integer(dlm_size) :: 0, 2, 4]
+    two%columns = [integer(dlm_size) :: 1, 2, 1, 2]
+    call expect(is(dlm_make_plan(two, own_plan, work), 0, 0), "two fields are planned")
+    answer = dlm_run_largest(two, own_plan, entries, ones, factor, work)
+    call expect(is(answer, 0, 0) .and. factor%pivots(1) == 2, "a row at the limit is exchanged with a fainter one")
+    answer = dlm_run_listed(two, own_plan, entries, ones, [integer(dlm_size) :: 1, 2], factor, work)
+    call expect(is(answer, 13, 1), "a list that names the fainter row is 13")
+    answer = dlm_run_listed(two, own_plan, entries, ones, [integer(dlm_size) :: 2, 2], factor, work)
+    call expect(is(answer, 0, 0) .and. factor%pivots(1) == 2, "a list that names the row at the limit is not")
   end subroutine
 
   ! Sums above 2,147,483,647 are where a signed number of 32 bits ends.

@@ -18,7 +18,20 @@ dlm_system trial_system(const trial *t)
 /* ------------------------------------------------------------------ making */
 
 /* Kinds of numbers; a system has one or two of them. */
-enum { SMALL_WHOLE, POWERS_OF_TWO, ORDINARY, SUBNORMAL, NEAR_OVERFLOW, ANY_FINITE, KINDS };
+enum { SMALL_WHOLE, POWERS_OF_TWO, ORDINARY, SUBNORMAL, NEAR_OVERFLOW, AROUND_LIMIT, ANY_FINITE, KINDS };
+
+/* The bits of numbers around 2^-1022, the least magnitude of a pivot: it and its two neighbours on either side; its small multiples, whose
+   differences are 0 or serve; quarters of it, whose differences are often faint; anything below its double. */
+static uint64_t bits_around_limit(uint64_t fraction)
+{
+    static const uint64_t limit = UINT64_C(1) << 52;
+    switch (draw(4)) {
+    case 0: return limit - 2 + draw(5);
+    case 1: return bits_of_real((double)(1 + draw(4)) * PLAIN_LEAST_PIVOT);
+    case 2: return bits_of_real((double)(1 + draw(8)) * PLAIN_LEAST_PIVOT / 4);
+    default: return (uint64_t)draw(2) << 52 | fraction;
+    }
+}
 
 static double random_real(size_t kind)
 {
@@ -33,6 +46,8 @@ static double random_real(size_t kind)
         return real_of_bits((uint64_t)(1013 + draw(21)) << 52 | fraction | sign);
     case SUBNORMAL:
         return real_of_bits((draw(2) == 0 ? fraction : fraction >> draw(52)) | sign);
+    case AROUND_LIMIT:
+        return real_of_bits(bits_around_limit(fraction) | sign);
     case NEAR_OVERFLOW:
         return real_of_bits((uint64_t)(2030 + draw(17)) << 52 | fraction | sign);
     default:
@@ -82,10 +97,8 @@ static void repeat_a_row(trial *t)
         t->values.at[to + place] = t->values.at[from + place];
 }
 
-static void make_values(trial *t)
+static void make_values(trial *t, size_t kind, size_t other)
 {
-    size_t kind = t->fault[14] ? (size_t)NEAR_OVERFLOW : draw(4) == 0 ? draw(KINDS) : draw(4);
-    size_t other = draw(3) == 0 ? (size_t)SMALL_WHOLE : kind;
     int no_right_side = draw(8) == 0; /* zeros of both signs */
     size_t place;
     resize_reals(&t->values, t->columns.length);
@@ -139,15 +152,31 @@ static void choose_faults(trial *t)
         t->fault[1 + draw(14)] = 1;
 }
 
-void make_trial(trial *t, size_t n)
+static void make_system(trial *t, size_t n, size_t kind, size_t other)
 {
-    memset(t, 0, sizeof *t);
     t->size = t->n = n;
-    choose_faults(t);
     make_pattern(t, 1 + draw(n < 8 ? 3 : n));
-    make_values(t);
+    make_values(t, kind, other);
     make_work(&t->work, n);
     make_plan_stores(&t->plan, n);
+}
+
+/* Subnormal numbers get whole ones beside them: alone they have no pivot. */
+void make_trial(trial *t, size_t n)
+{
+    size_t kind;
+    memset(t, 0, sizeof *t);
+    choose_faults(t);
+    kind = t->fault[14] ? (size_t)NEAR_OVERFLOW : draw(4) == 0 ? draw(KINDS) : draw(4);
+    make_system(t, n, kind, draw(3) == 0 || kind == SUBNORMAL ? (size_t)SMALL_WHOLE : kind);
+}
+
+/* Whole numbers beside them: what is faint is passed over, and quotients by what is not come near overflow or pass it. */
+void make_limit_trial(trial *t, size_t n)
+{
+    memset(t, 0, sizeof *t);
+    t->around_limit = 1;
+    make_system(t, n, AROUND_LIMIT, draw(3) == 0 ? (size_t)SMALL_WHOLE : (size_t)AROUND_LIMIT);
 }
 
 void free_trial(trial *t)
@@ -171,7 +200,7 @@ void make_run(trial *t, const plain_plan *plain)
     plain_eliminate(&pattern, &system, AT_RANDOM, NULL, draw, dlm_whole(), &run);
     resize_numbers(&t->rows, t->size);
     for (k = 1; k <= t->size; k++)
-        t->rows.at[k - 1] = run.pivots[k] != 0 && draw(60) != 0 ? run.pivots[k] : k + draw(t->size - k + 1);
+        t->rows.at[k - 1] = run.pivots[k] != 0 && draw(t->around_limit ? 6 : 60) != 0 ? run.pivots[k] : k + draw(t->size - k + 1);
     t->listed = draw(2) == 0;
     t->extent = draw(3) == 0 ? dlm_cut(draw(t->size + 1)) : dlm_whole();
     resize_reals(&t->factor.l, plain->l.slots[t->size] + draw(3));

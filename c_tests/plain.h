@@ -1,5 +1,5 @@
-/* Document 01 written down plainly, without sparse stores: sets as rows of marks, the square as a square. Nothing here is taken from the
-   library; the tests compare the two. Indexes of sets and squares count from 1, place 0 is not used. */
+/* Documents 01 and 02 written down plainly, without sparse stores: sets as rows of marks, the square as a square. Nothing here is taken from
+   the library; the tests compare the two. Indexes of sets and squares count from 1, place 0 is not used. */
 #ifndef PLAIN_H
 #define PLAIN_H
 
@@ -7,6 +7,9 @@
 
 /* The largest n of a trial that gets as far as planning. */
 enum { PLAIN_MOST = 120 };
+
+/* Document 02, ticket 14: "A pivot must have magnitude at least 2 to the power -1022". */
+#define PLAIN_LEAST_PIVOT 0x1p-1022
 
 /* The lists of one side and their shared subscripts. */
 typedef struct plain_side {
@@ -35,6 +38,8 @@ typedef struct plain_run {
     double square[PLAIN_MOST + 1][PLAIN_MOST + 1];
     double x[PLAIN_MOST + 1];
     size_t pivots[PLAIN_MOST + 1];
+    int by_limit;       /* stopped with 13 for the limit alone: an entry that was looked at is not zero */
+    size_t passed_over; /* steps whose column had a fainter entry than the limit beside the pivot */
 } plain_run;
 
 dlm_answer plain_answer(size_t number, size_t step);

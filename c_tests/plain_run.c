@@ -1,5 +1,5 @@
-/* The reference of document 01: elimination on a full square of double. To be compiled with -ffp-contract=off: "the product is rounded
-   once, then the difference". Zero means +0 or -0, which is what == says. */
+/* The reference of document 01, with the limit of document 02's ticket 14: elimination on a full square of double. To be compiled with
+   -ffp-contract=off: "the product is rounded once, then the difference". Zero means +0 or -0, which is what == says. */
 #include "plain.h"
 
 #include <math.h>
@@ -17,14 +17,19 @@ static void load(const dlm_pattern *pattern, const dlm_system *system, plain_run
     }
 }
 
-/* The row of the largest magnitude in column k, the lowest if equal; 0 if all are zero. */
+static int serves(double entry)
+{
+    return fabs(entry) >= PLAIN_LEAST_PIVOT;
+}
+
+/* The row of the largest magnitude in column k among those that serve, the lowest if equal; 0 if none does. */
 static size_t largest_row(const plain_run *run, size_t n, size_t k)
 {
     size_t i;
     size_t best = 0;
     double magnitude = 0;
     for (i = k; i <= n; i++) {
-        if (fabs(run->square[i][k]) > magnitude) {
+        if (serves(run->square[i][k]) && fabs(run->square[i][k]) > magnitude) {
             magnitude = fabs(run->square[i][k]);
             best = i;
         }
@@ -32,16 +37,26 @@ static size_t largest_row(const plain_run *run, size_t n, size_t k)
     return best;
 }
 
-/* One of the rows with a nonzero entry; 0 if there is none. */
+/* One of the rows that serve; 0 if there is none. */
 static size_t random_row(const plain_run *run, size_t n, size_t k, size_t (*draw)(size_t))
 {
     size_t i;
     size_t found = 0;
     size_t chosen = 0;
     for (i = k; i <= n; i++)
-        if (run->square[i][k] != 0 && draw(++found) == 0)
+        if (serves(run->square[i][k]) && draw(++found) == 0)
             chosen = i;
     return chosen;
+}
+
+/* Whether some row from `from` to `to` has an entry in column k that is not zero and does not serve. */
+static int has_faint(const plain_run *run, size_t from, size_t to, size_t k)
+{
+    size_t i;
+    for (i = from; i <= to; i++)
+        if (run->square[i][k] != 0 && !serves(run->square[i][k]))
+            return 1;
+    return 0;
 }
 
 /* Columns k to n and the right side; earlier multipliers stay. */
@@ -90,7 +105,7 @@ static int reduce_row(plain_run *run, size_t n, size_t k, size_t i)
 static size_t step(plain_run *run, size_t n, size_t k, size_t p)
 {
     size_t i;
-    if (p == 0 || run->square[p][k] == 0)
+    if (p == 0 || !serves(run->square[p][k]))
         return 13;
     exchange(run, n, k, p);
     run->pivots[k] = p;
@@ -120,7 +135,11 @@ void plain_eliminate(const dlm_pattern *pattern, const dlm_system *system, plain
     load(pattern, system, run);
     for (k = 1; k <= steps; k++) {
         size_t p = choice == BY_LIST ? rows[k - 1] : choice == BY_LARGEST ? largest_row(run, n, k) : random_row(run, n, k, draw);
+        int faint = has_faint(run, k, n, k);
+        int asked_faint = choice == BY_LIST ? has_faint(run, p, p, k) : faint;
         size_t number = step(run, n, k, p);
+        run->by_limit = number == 13 && asked_faint;
+        run->passed_over += number != 13 && faint;
         if (number != 0) {
             run->answer = plain_answer(number, k);
             return;

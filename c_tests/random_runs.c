@@ -1,10 +1,11 @@
-/* Random systems through the header, each call compared bit for bit with document 01 written down plainly.
+/* Random systems through the header, each call compared bit for bit with documents 01 and 02 written down plainly.
 
      random_runs [SEED [SYSTEMS]]
 
    Each trial is answered as a job; then it is planned, verified and run twice, with different numbers in the result and work stores
-   beforehand. Half of the trials have a fault or two. What is compared: number and step of the answer, every result store, zeros after
-   refusals and behind results, zeros in work stores, what a job prints, and that inputs are unchanged. */
+   beforehand. Half of the trials have a fault or two. After each come ten small ones whose numbers lie around 2^-1022, the least magnitude
+   of a pivot. What is compared: number and step of the answer, every result store, zeros after refusals and behind results, zeros in work
+   stores, what a job prints, and that inputs are unchanged. */
 #include "trial.h"
 
 #include <stdio.h>
@@ -15,8 +16,13 @@ typedef struct score {
     size_t planned;
     size_t finished[4]; /* by the largest entry and by list, whole and cut */
     size_t printed;     /* jobs that print a solution */
+    size_t by_limit[2]; /* 13 for the least magnitude of a pivot alone, by the largest entry and by list */
+    size_t passed_over; /* finished though some column had a fainter entry */
     size_t wrong;
 } score;
+
+/* Trials around the limit after each other trial, and how many runs each thing that the limit decides has to be seen in. */
+enum { LIMIT_TRIALS = 10, LIMIT_RUNS = 1000 };
 
 static score total;
 static size_t current;
@@ -118,8 +124,11 @@ static void try_run(trial *t, const plain_plan *plain)
     check_stores("second run", fault_in_work(&t->work, 1));
     check_stores("second run", digest_of_results(t) == results ? NULL : "bits differ from the first run's");
     check_stores("run", digest_of_inputs(t) == before ? NULL : "an input is changed");
-    if (expected.refusal == DLM_NONE)
+    if (expected.refusal == DLM_NONE) {
         total.finished[(t->listed ? 2 : 0) + (t->extent.cut != 0 ? 1 : 0)]++;
+        total.passed_over += run.passed_over > 0;
+    }
+    total.by_limit[t->listed] += expected.refusal == DLM_NO_PIVOT && run.by_limit;
 }
 
 /* A tally with any sum and any updates, often near its limit. */
@@ -152,27 +161,36 @@ static void try_job(const trial *t, const plain_plan *plain)
     free(job);
 }
 
-static void try_system(size_t n)
+static void try_calls(trial *t)
 {
     static plain_plan plain;
-    trial t;
-    dlm_pattern pattern;
-    make_trial(&t, n);
-    pattern = trial_pattern(&t);
+    dlm_pattern pattern = trial_pattern(t);
     plain_make_plan(&pattern, &plain);
-    make_run(&t, &plain);
-    try_job(&t, &plain);
-    spoil_pattern(&t);
-    spoil_plan_stores(&t, &plain);
-    try_plan(&t, &plain);
-    spoil_run(&t);
-    try_verify(&t, &plain);
-    try_run(&t, &plain);
+    make_run(t, &plain);
+    try_job(t, &plain);
+    spoil_pattern(t);
+    spoil_plan_stores(t, &plain);
+    try_plan(t, &plain);
+    spoil_run(t);
+    try_verify(t, &plain);
+    try_run(t, &plain);
     try_tally();
-    free_trial(&t);
+    free_trial(t);
 }
 
-/* Every refusal and every kind of run has to come about, or the trials show less than they say. */
+static void try_system(size_t n)
+{
+    trial t;
+    size_t turn;
+    make_trial(&t, n);
+    try_calls(&t);
+    for (turn = 0; turn < LIMIT_TRIALS; turn++) {
+        make_limit_trial(&t, 1 + draw(8));
+        try_calls(&t);
+    }
+}
+
+/* Every refusal and every kind of run has to come about, what the limit decides in many of them, or the trials show less than they say. */
 static int all_seen(void)
 {
     size_t number;
@@ -180,14 +198,18 @@ static int all_seen(void)
     for (number = 0; number < 20; number++)
         if ((number < 15 || number > 18) && total.seen[number] == 0)
             all = 0;
-    return all;
+    return all && total.by_limit[0] >= LIMIT_RUNS && total.by_limit[1] >= LIMIT_RUNS && total.passed_over >= LIMIT_RUNS;
 }
 
 static void print_score(unsigned long long seed, size_t systems)
 {
     size_t number;
-    printf("seed %llu: %zu systems, %zu planned; finished by the largest entry %zu, cut %zu, by list %zu, cut %zu; as jobs %zu\n",
-           seed, systems, total.planned, total.finished[0], total.finished[1], total.finished[2], total.finished[3], total.printed);
+    printf("seed %llu: %zu systems and %zu around 2^-1022, %zu planned; finished by the largest entry %zu, cut %zu, by list %zu, cut %zu; "
+           "as jobs %zu\n",
+           seed, systems, systems * LIMIT_TRIALS, total.planned, total.finished[0], total.finished[1], total.finished[2], total.finished[3],
+           total.printed);
+    printf("13 for the limit alone: by the largest entry %zu, by list %zu; finished past fainter entries: %zu\n", total.by_limit[0],
+           total.by_limit[1], total.passed_over);
     printf("answers by number:");
     for (number = 0; number < 20; number++)
         if (number < 15 || number > 18)
@@ -204,7 +226,7 @@ int main(int count, char **words)
     }
     print_score(seed, systems);
     if (systems >= 1000 && !all_seen()) {
-        printf("some answer never came about\n");
+        printf("some answer never came about, or what the limit decides came about too seldom\n");
         return EXIT_FAILURE;
     }
     printf("%zu wrong\n", total.wrong);

@@ -1,4 +1,4 @@
-/* A trial: one random system with its stores, one fault or none, and what document 01 says that the calls answer. */
+/* A trial: one random system with its stores, one fault or none, and what documents 01 and 02 say that the calls answer. */
 #ifndef TRIAL_H
 #define TRIAL_H
 
@@ -8,6 +8,7 @@
 typedef struct trial {
     size_t size;           /* the n that the stores were made for */
     size_t n;              /* the n that the calls are told */
+    int around_limit;      /* numbers around the least magnitude of a pivot */
     unsigned char fault[15]; /* fault[r]: refusal r is provoked; with two of them the order of the table shows */
     dlm_numbers starts, columns, rows;
     dlm_reals values, right;
@@ -23,13 +24,17 @@ dlm_system trial_system(const trial *t);
 
 /* A random system of n rows with stores for planning; in half of them no fault, else one or two. */
 void make_trial(trial *t, size_t n);
+
+/* One without faults whose numbers lie around the least magnitude of a pivot. */
+void make_limit_trial(trial *t, size_t n);
 void free_trial(trial *t);
 
 /* Faults 1 to 5 in the pattern; 6 to 8 in the stores of a plan. `plain` is the plan without faults. */
 void spoil_pattern(trial *t);
 void spoil_plan_stores(trial *t, const plain_plan *plain);
 
-/* A row list that the values allow (or, now and then, any list that 12 lets pass), slots as the plan counts them or some more. */
+/* A row list that the values allow (or, now and then, any list that 12 lets pass; around the limit often), slots as the plan counts them or
+   some more. */
 void make_run(trial *t, const plain_plan *plain);
 
 /* Faults 6 and 9 to 12 before a run. 13 and 14 are faults of the values, which make_trial sees to. */

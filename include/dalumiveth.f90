@@ -210,7 +210,8 @@ contains
     factor%updates = numbers(3)
   end function
 
-  ! Eliminates and solves by the largest entry of each column; with `steps`, the first so many steps alone. Refuses with 1 to 6 and 9 to 14.
+  ! Eliminates and solves by the largest entry of each column; with `steps`, the first so many steps alone. One of a magnitude below 2^-1022 is
+  ! no pivot: 13. Refuses with 1 to 6 and 9 to 14.
   function dlm_run_largest(pattern, plan, values, right, factor, work, steps) result(answer)
     type(dlm_pattern), intent(in) :: pattern
     type(dlm_plan), intent(in) :: plan
@@ -270,7 +271,8 @@ contains
     case (10); sentence = "values are not as many as entries, right side, x, pivots or d not n, or slots fewer than planned"
     case (11); sentence = "a value or right side is not finite"
     case (12); sentence = "the row list is not n long, its row k is below k or above n, or the run is cut to more than n steps"
-    case (13); sentence = "no row from the step on, or not the listed row, has a nonzero entry in the step's column"
+    case (13); sentence = "no row from the step on, or not the listed row, has an entry of magnitude at least 2^-1022 in the &
+        &step's column"
     case (14); sentence = "a quotient, product or difference is not finite"
     case (15); sentence = "job: a command byte is unknown or stands where it may not, or R names another row than the next"
     case (16); sentence = "job: the bytes end inside or before a command"

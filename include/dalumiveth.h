@@ -68,7 +68,7 @@ typedef enum dlm_refusal {
     DLM_LENDING = 10,       /* values not as many as entries, right side, x, pivots or d not n, or slots fewer than planned */
     DLM_VALUES = 11,        /* a value or right side is not finite */
     DLM_ROW_LIST = 12,      /* the row list is not n long, its row k is below k or above n, or a run is cut to more than n steps */
-    DLM_NO_PIVOT = 13,      /* no row from k on, or not the listed row, has a nonzero entry in column k; the step k */
+    DLM_NO_PIVOT = 13,      /* no row from k on, or not the listed row, has an entry of magnitude at least 2^-1022 in column k; the step k */
     DLM_NOT_FINITE = 14,    /* a quotient, product or difference is not finite; the step, in back substitution the row */
     DLM_JOB_COMMAND = 15,   /* job: a command byte is unknown or stands where it may not, or R names another row than the next */
     DLM_JOB_ENDS = 16,      /* job: the bytes end inside or before a command */
@@ -94,7 +94,7 @@ static inline const char *dlm_sentence(size_t number)
         "values are not as many as entries, right side, x, pivots or d not n, or slots fewer than planned",
         "a value or right side is not finite",
         "the row list is not n long, its row k is below k or above n, or the run is cut to more than n steps",
-        "no row from the step on, or not the listed row, has a nonzero entry in the step's column",
+        "no row from the step on, or not the listed row, has an entry of magnitude at least 2^-1022 in the step's column",
         "a quotient, product or difference is not finite",
         "job: a command byte is unknown or stands where it may not, or R names another row than the next",
         "job: the bytes end inside or before a command",
@@ -469,7 +469,7 @@ static inline dlm_answer dlm_run_by(size_t by_list, const dlm_pattern *pattern, 
 }
 
 /* Eliminates and solves; the pivot row of step k is the row from k on with the largest magnitude in column k, the lowest if equal.
-   Refuses with 1 to 6 and 9 to 14. */
+   One of a magnitude below 2^-1022 is no pivot: 13. Refuses with 1 to 6 and 9 to 14. */
 static inline dlm_answer dlm_run_largest(const dlm_pattern *pattern, const dlm_plan *plan, const dlm_system *system, dlm_extent extent,
                                          dlm_factor *factor, dlm_work *work)
 {

@@ -17,6 +17,7 @@ import random
 import struct
 import sys
 
+import cases_limit
 from cases_patterns import FIELDS, flat, joining, shape, shared_with_earlier, strip_with_steps_between, together
 from cases_steps import joined, sharing_otherwise
 from dense_program import Dense
@@ -55,11 +56,12 @@ def refusal(answer):
 
 
 class Cases:
-    def __init__(self, dense, document_01):
-        self.dense, self.document_01 = dense, document_01
+    def __init__(self, dense, before_5, before_14):
+        self.dense, self.before_5, self.before_14 = dense, before_5, before_14
         self.bytes, self.lines, self.count = bytearray(), [], 0
         self.answers, self.steps = {}, {13: set(), 14: set()}
-        self.otherwise = [0, 0]     # verified and run otherwise by document 01 alone
+        self.otherwise = [0, 0]     # verified and run otherwise without ticket 5
+        self.limited = {}           # run otherwise without ticket 14: how often, by list or not, by that answer's number
         self.finished = {(a, b): 0 for a in ("largest", "listed") for b in ("whole", "cut")}
 
     def request(self, most, n, starts, columns, counts, stores, values, right, listed, cut, lengths, work):
@@ -80,8 +82,9 @@ class Cases:
         self.lines.append("verify agrees" if held[0] == "granted" else "verify " + refusal(held))
         asked_run = *asked, fixed, values, right, listed, cut, lengths
         called = self.dense.run_call(*asked_run)
-        self.otherwise[0] += held != self.document_01.hold_call(*asked, planning)
-        self.otherwise[1] += called.answer != self.document_01.run_call(*asked_run).answer
+        self.otherwise[0] += held != self.before_5.hold_call(*asked, planning)
+        self.otherwise[1] += called.answer != self.before_5.run_call(*asked_run).answer
+        self.note_limit(called, listed, asked_run)
         if called.answer[0] == "granted":
             self.lines.append(f"run finished {called.answer[1]}")
             self.finished["largest" if listed is None else "listed", "whole" if cut is None else "cut"] += 1
@@ -96,6 +99,16 @@ class Cases:
         self.lines.append("work zero")
         self.count += 1
         return called.answer
+
+    def note_limit(self, called, listed, asked_run):
+        """Counts a run that ticket 14 stops. The largest entry reaches the limit if any does, and a list is a list: without the limit a run
+        goes the same way up to a 13, so that no other answer differs."""
+        if called.answer[:2] != ("refused", 13):
+            return
+        before = self.before_14.run_call(*asked_run).answer
+        if before != called.answer:
+            kind = "largest" if listed is None else "listed", 0 if before[0] == "granted" else before[1]
+            self.limited[kind] = self.limited.get(kind, 0) + 1
 
     def run(self, rows, values, right, listed=None, cut=None, most=1024, more=None, bend=None, lent=None):
         """A run on the pattern's own plan. `more` gives lengths by name, `bend` changes the lent plan (counts, stores), `lent` the pattern (n, starts, columns)."""
@@ -374,7 +387,7 @@ def add_together(cases, rng):
         changed_at(cases, rng, rows, step, number // 2, number, number)
 
 
-# ------------------------------------------------------- plans by document 01 alone
+# ------------------------------------------------------- plans without ticket 5
 
 def lent_from(dense, rows, *names):
     """Puts the named parts of the plan that a program makes into the lent one: "counts", or stores."""
@@ -389,7 +402,7 @@ def lent_from(dense, rows, *names):
     return bend
 
 
-def add_plans_of_document_01(cases, rng):
+def add_plans_before_5(cases, rng):
     """Patterns whose lists share with the end of the whole store: their own plan, and the plan by document 01 alone, which is 9. That plan whole, its
     stores under the pattern's own counts, its counts alone, and on each side that differs its starts alone; then 9 against 6 and 10."""
     before = cases.count
@@ -397,10 +410,10 @@ def add_plans_of_document_01(cases, rng):
         values, right = numbers(rng, entries(rows), "plain"), numbers(rng, len(rows), "plain")
 
         def lent(*names, values=values, **other):
-            return cases.run(rows, values, right, bend=lent_from(cases.document_01, rows, *names), **other)
+            return cases.run(rows, values, right, bend=lent_from(cases.before_5, rows, *names), **other)
 
         agreed_with(cases, rng, rows, ended[0].step if ended else 1, turn)
-        own, alone = (dense.stores_of(dense.plan(rows)) for dense in (cases.dense, cases.document_01))
+        own, alone = (dense.stores_of(dense.plan(rows)) for dense in (cases.dense, cases.before_5))
         starts = [[name] for name in ("l_starts", "u_starts") if own[name] != alone[name]]
         for names in (["counts", *PLAN_STORES], PLAN_STORES, ["counts"], *starts):
             assert lent(*names) == ("refused", 9, 0)
@@ -411,10 +424,20 @@ def add_plans_of_document_01(cases, rng):
     return cases.count - before
 
 
+# ------------------------------------------------------- the least magnitude of a pivot
+
+def add_around_limit(cases, rng):
+    """Systems around 2 to the power -1022; result stores are longer than planned now and then."""
+    before, stopped = cases.count, sum(cases.limited.values())
+    for turn, asked in enumerate(cases_limit.systems(rng)):
+        cases.run(*asked, more={"lower": turn % 3, "upper": turn // 3 % 2})
+    return cases.count - before, sum(cases.limited.values()) - stopped
+
+
 def main():
     if len(sys.argv) != 2:
         raise SystemExit(__doc__)
-    rng, cases = random.Random(19841984), Cases(Dense(sys.argv[1]), Dense(sys.argv[1], share_end=False))
+    rng, cases = random.Random(19841984), Cases(Dense(sys.argv[1]), Dense(sys.argv[1], share_end=False), Dense(sys.argv[1], faint=False))
     add_named(cases, rng)
     add_refused(cases, rng)
     add_random(cases, rng)
@@ -422,7 +445,8 @@ def main():
     rng = random.Random(19841985)       # a seed of their own, so that the requests above can stay as they are
     sides = add_joined(cases, rng)
     add_together(cases, rng)
-    alone = add_plans_of_document_01(cases, random.Random(19841986))
+    plans = add_plans_before_5(cases, random.Random(19841986))
+    around, stopped = add_around_limit(cases, random.Random(19841987))
     crate = os.path.join(os.path.dirname(os.path.abspath(__file__)), "..", "crates", "cases_elimination")
     with open(os.path.join(crate, "stdin"), "wb") as file:
         file.write(cases.bytes)
@@ -431,7 +455,8 @@ def main():
     print(f"{cases.count} requests; finished {cases.finished}; refused {dict(sorted(cases.answers.items()))}; "
           f"steps of 13 {sorted(cases.steps[13])}, of 14 {sorted(cases.steps[14])}; "
           f"{len(sides)} pairs of what a row is to L and to U, each at {min(sides.values())} steps; "
-          f"with plans by document 01 alone: {alone}; by it verified otherwise {cases.otherwise[0]}, run otherwise {cases.otherwise[1]}")
+          f"with plans without ticket 5: {plans}; by it verified otherwise {cases.otherwise[0]}, run otherwise {cases.otherwise[1]}; "
+          f"around the limit: {around}, of which {stopped} run otherwise without ticket 14; of all, by the number without it {dict(sorted(cases.limited.items()))}")
 
 
 if __name__ == "__main__":

@@ -16,6 +16,7 @@ import random
 import struct
 import sys
 
+import cases_limit
 from cases_patterns import FIELDS, chained, fixed_shapes, grid, shape, sparse
 from cases_steps import sharing_otherwise
 from dense_program import Dense
@@ -56,22 +57,24 @@ def filled(rows, draw):
 class Cases:
     """The jobs and their answers so far, and what they cover."""
 
-    def __init__(self, dense, document_01):
-        self.dense, self.document_01, self.jobs, self.answers = dense, document_01, [], []
+    def __init__(self, dense, **before):
+        self.dense, self.before, self.jobs, self.answers = dense, before, [], []
         self.numbers, self.steps = {}, {}
-        self.changed = {}       # jobs that document 01 alone answers otherwise: how often, by its answer's number and by ours
+        self.changed = {name: {} for name in before}    # jobs answered otherwise without a ticket: how often, by that answer's number and by ours
 
     def add(self, bytes_):
         answer = self.dense.report(bytes_)
         self.jobs.append(bytes_)
         self.answers.append(answer)
-        number, alone = number_of(answer), self.document_01.report(bytes_)
+        number = number_of(answer)
         self.numbers[number] = self.numbers.get(number, 0) + 1
         if number:
             self.steps.setdefault(number, set()).add(int(answer.split()[2]))
-        if answer != alone:
-            numbers = number_of(alone), number
-            self.changed[numbers] = self.changed.get(numbers, 0) + 1
+        for name, dense in self.before.items():
+            other = dense.report(bytes_)
+            if answer != other:
+                numbers = number_of(other), number
+                self.changed[name][numbers] = self.changed[name].get(numbers, 0) + 1
         return answer
 
     def expect(self, bytes_, answer):
@@ -128,7 +131,7 @@ def commands(cases):
 
 
 def small(cases):
-    for x, answer in ((0.0, "refused 13 1\n"), (-0.0, "refused 13 1\n"), (5e-324, "refused 14 1\n"), (-3.0, "plan"),
+    for x, answer in ((0.0, "refused 13 1\n"), (-0.0, "refused 13 1\n"), (5e-324, "refused 13 1\n"), (-3.0, "plan"),
                       (INF, "refused 11 0\n"), (NAN, "refused 11 0\n")):
         for pivots in ([], [1]):
             cases.expect(job([[1]], [[x]], [3.0], pivots), answer)
@@ -318,6 +321,14 @@ def ends_shared(cases, rng):
         sized(cases, sparse(rng, 128, more), rng, "plan")
 
 
+def around_limit(cases, rng):
+    """Every fifth whole run of the systems around the least magnitude of a pivot: five is prime to how many ways each system is run."""
+    whole = [asked for asked in cases_limit.systems(rng) if asked.cut is None and len(asked.listed or asked.rows) == len(asked.rows)]
+    for rows, values, right, listed, _ in whole[::5]:
+        numbers = iter(values)
+        cases.add(job(rows, filled(rows, lambda: next(numbers)), right, listed or ()))
+
+
 def large(cases, rng):
     strip = shape(128, lambda i, j: abs(i - j) == 1)
     sized(cases, strip, rng, "plan 128 ")
@@ -375,7 +386,7 @@ def recorded():
 def main():
     if len(sys.argv) != 2:
         raise SystemExit(__doc__)
-    cases, rng = Cases(Dense(sys.argv[1]), Dense(sys.argv[1], share_end=False)), random.Random(8443)
+    cases, rng = Cases(Dense(sys.argv[1]), ticket_5=Dense(sys.argv[1], share_end=False), ticket_14=Dense(sys.argv[1], faint=False)), random.Random(8443)
     four_fields(cases)
     commands(cases)
     small(cases)
@@ -387,6 +398,7 @@ def main():
     large(cases, rng)
     longest(cases, rng)
     ends_shared(cases, random.Random(8445))
+    around_limit(cases, random.Random(8446))
     assert sorted(cases.numbers) == [0] + REACHABLE, sorted(cases.numbers)
     with open(os.path.join(FOLDER, "stdin"), "wb") as file:
         file.write(b"".join(struct.pack("<H", len(text)) + text for text in cases.jobs))
@@ -394,7 +406,8 @@ def main():
         file.write("".join(f"job {i}\n{answer}" for i, answer in enumerate(cases.answers, 1)))
     steps = {number: sorted(found) for number, found in sorted(cases.steps.items()) if number in (7, 8, 13, 14)}
     print(f"{len(cases.jobs)} jobs; answers by number (0: finished) {dict(sorted(cases.numbers.items()))}; steps {steps}; "
-          f"otherwise by document 01 alone: {sum(cases.changed.values())}, by its answer and ours {dict(sorted(cases.changed.items()))}")
+          + "; ".join(f"otherwise without {name}: {sum(changed.values())}, by that answer and ours {dict(sorted(changed.items()))}"
+                      for name, changed in cases.changed.items()))
 
 
 if __name__ == "__main__":

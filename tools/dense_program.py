@@ -1,14 +1,15 @@
 """The dense program of different authorship that document 01 asks for ("other cases are executed and compared"), as the tools that write the cases ask it.
 
 It is a folder with now.py, which knows whole calls by documents 01 and 02, and what now.py imports. LANDED says which requests of document 02 have landed;
-`Dense(FOLDER, share_end=False)` answers as if ticket 5 had not, so that the cases can show where its rule makes a difference.
+`Dense(FOLDER, share_end=False)` answers as if ticket 5 had not, `Dense(FOLDER, faint=False)` as if ticket 14 had not, so that the cases can show where a
+request's rule makes a difference.
 """
 import collections
 import os
 import sys
 
 # the rules of tickets 5, 14 and 9, by now.py's names
-LANDED = {"share_end": True, "faint": False, "tall": False}
+LANDED = {"share_end": True, "faint": True, "tall": False}
 Called = collections.namedtuple("Called", "answer stores")
 
 

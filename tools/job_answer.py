@@ -9,7 +9,7 @@ from job_bytes import MOST_BYTES, MOST_FIELDS, Refused, is_finite, number_of, re
 
 ROOM = 2048
 
-# What is wrong, for each refusal of document 01; {k} is its step.
+# What is wrong, for each refusal of document 01, 13 by document 02's ticket 14; {k} is its step.
 SENTENCES = {
     1: f"The number of fields is 0 or above {MOST_FIELDS} (in a call of the library: above 1,024, or more than 16,384 entries).",
     2: "The row starts of a pattern are not n+1, do not begin with 0, fall, or do not end with the number of entries.",
@@ -25,8 +25,8 @@ SENTENCES = {
     11: "A value or a right side is not finite.",
     12: "The row list names for some step k a row before k or after n "
         "(or, in a call of the library, is not n long, or the run is to be cut after more than n steps).",
-    13: "At step {k} there is no pivot: no row from {k} on, or not the listed row, has a nonzero entry in column {k}. "
-        "The equations do not determine every field, or the list is not legal.",
+    13: "At step {k} there is no pivot: no row from {k} on, or not the listed row, has an entry of magnitude at least 2^-1022 in column {k}. "
+        "The equations do not determine every field, or only by weights too faint to divide by, or the list is not legal.",
     14: "At step {k}, or in row {k} of the back substitution, a quotient, product or difference passes the largest 64-bit number.",
     15: "A command byte is unknown or stands where it may not, or R names another row than the next, or there are neither none nor n P.",
     16: "The job ends inside a command or before its Z.",

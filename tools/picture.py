@@ -156,12 +156,14 @@ def slots(equations):
     return ({(k, k) for k in steps} | {(k, j) for k in steps for j in upper[k] if j > k} | {(i, k) for k in steps for i in lower[k] if i > k})
 
 
-# ---- the run (document 01, "Elimination"), on the full square
+# ---- the run (document 01, "Elimination"; document 02, ticket 14), on the full square
+
+LEAST_PIVOT = 2.0 ** -1022      # the least magnitude of a pivot: if any row has it, the one with the largest does
 
 def pivot_row(square, k, pivots):
     rows = range(k, len(square))
     p = pivots[k - 1] if pivots else max(rows, key=lambda i: (abs(square[i][k]), -i))
-    if square[p][k] == 0.0:
+    if abs(square[p][k]) < LEAST_PIVOT:
         raise Bad(f"the run stops: 13 at step {k}")
     return p
 

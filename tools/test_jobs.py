@@ -175,6 +175,7 @@ class Answers(unittest.TestCase):
             self.assertEqual(said.count("\n"), 3 if number in (2, 6, 9, 19) else 2)
             self.assertEqual("17" in said.splitlines()[1], bool(step))
             self.assertNotIn("{", said)
+        self.assertIn("has an entry of magnitude at least 2^-1022 in column 17", job_answer.explain("refused 13 17\n")[0])
 
     def test_places(self):
         def job(text):

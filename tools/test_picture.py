@@ -115,10 +115,11 @@ class Command(unittest.TestCase):
         self.assertEqual(run("--survey", "20", "3")[0], 0)
 
     def test_one_field(self):
-        with tempfile.NamedTemporaryFile("w", suffix=".txt") as file:
-            file.write("fields 1\nrow 1 1:2 = 1\n")
-            file.flush()
-            self.assertEqual(drawn(run(file.name)[1]), {"listed": 1, "filled": 0, "left": 0})
+        for value in ("2", "@0010000000000000"):                    # 2^-1022 is a pivot
+            with tempfile.NamedTemporaryFile("w", suffix=".txt") as file:
+                file.write(f"fields 1\nrow 1 1:{value} = 1\n")
+                file.flush()
+                self.assertEqual(drawn(run(file.name)[1]), {"listed": 1, "filled": 0, "left": 0})
 
     def test_said(self):
         for rows, said in (("2,2,3,4", "13 at step 1"), ("1,1,3,4", "has to have 4 rows"), ("1,2", "has to have 4 rows")):
@@ -128,7 +129,9 @@ class Command(unittest.TestCase):
         for text, said in (("row", "'fields'"), ("fields 1\nrow 1 = 1", "diagonal"), ("fields 1\nrow 1 1:1 2:1 = 1", "outside"),
                            ("fields 1\nrow 1 1:inf = 1", "finite"), ("fields 0", "0 fields"),
                            ("fields 2\nrow 1 2:1 1:1 = 0\nrow 2 2:1 = 0", "ascend"),
-                           ("fields 2\nrow 1 1:1 2:1e308 = 0\nrow 2 1:1 2:-1e308 = 0", "14 at step 1")):
+                           ("fields 2\nrow 1 1:1 2:1e308 = 0\nrow 2 1:1 2:-1e308 = 0", "14 at step 1"),
+                           ("fields 1\nrow 1 1:-0x0.fffffffffffffp-1022 = 1", "13 at step 1"),
+                           ("fields 2\nrow 1 1:@000FFFFFFFFFFFFF 2:1 = 0\nrow 2 1:@0010000000000000 2:1 = 0\npivots 1 2", "13 at step 1")):
             with tempfile.NamedTemporaryFile("w", suffix=".txt") as file:
                 file.write(text)
                 file.flush()

@@ -46,7 +46,8 @@ class Factor:
 def splu(matrix, *, add_diagonal=False):
     """Plans and eliminates a matrix, with the largest entry of each column as pivot; a `Factor` with solve(), L and U.
 
-    matrix and add_diagonal are as for `plan`; raises `Refusal` as `plan` and `Plan.run` do, 13 if the matrix is singular.
+    matrix and add_diagonal are as for `plan`; raises `Refusal` as `plan` and `Plan.run` do, 13 if the matrix is singular or a
+    pivot would be fainter than 2^-1022, the least normal float64.
     Columns are not reordered. The values are copied, so that the matrix may change afterwards.
     """
     matrix = by_rows(matrix, MATRIX)

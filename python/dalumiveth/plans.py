@@ -114,7 +114,8 @@ class Plan:
         matrix  a matrix of the planned pattern, or its values alone: a float64 array in the order of the data of the matrix
                 that was planned. A matrix of a pattern with another plan is refused with 9.
         right   the right side, float64
-        rows    the row list: the row of each step, counted from 0. None: the largest entry of the column chooses.
+        rows    the row list: the row of each step, counted from 0. None: the largest entry of the column chooses. Either way a
+                pivot has magnitude at least 2^-1022; where none has, or not the listed one, the run is refused with 13.
         steps   cuts the run to its first `steps` steps, without back substitution; run.x is then the right side as it is
                 after them. None: a whole run.
 

@@ -1,7 +1,7 @@
 """The nineteen refusals: numbers, sentences, and where each is checked."""
 
-# Number: (where it is checked, its sentence), in the words of the table of document 01. Rows, columns, places p_k and steps in
-# the sentences count from 1.
+# Number: (where it is checked, its sentence), in the words of the table of document 01, 13 by document 02's ticket 14. Rows,
+# columns, places p_k and steps in the sentences count from 1.
 SENTENCES = {
     1: ("pattern", "n is 0 or above 1,024 (or above what the caller takes), or there are more than 16,384 entries"),
     2: ("pattern", "the row starts are not n+1 numbers that begin with 0, do not fall and end with the number of entries"),
@@ -15,7 +15,7 @@ SENTENCES = {
     10: ("values", "values are not as many as entries, the right side is not n long, or slots are fewer than planned"),
     11: ("values", "a value or right side is not finite"),
     12: ("run", "the row list is not n long, p_k is below k or above n, or the steps are more than n"),
-    13: ("run", "no row from this step on, or not the listed row, has a nonzero entry in this step's column"),
+    13: ("run", "no row from this step on, or not the listed row, has an entry of magnitude at least 2^-1022 in this step's column"),
     14: ("run", "a quotient, product or difference is not finite"),
     15: ("job", "a command byte is unknown or stands where it may not, or R names another row than the next"),
     16: ("job", "the bytes end inside or before a command"),

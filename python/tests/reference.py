@@ -1,4 +1,4 @@
-"""The definitions of document 01, and of document 02's ticket 5, on full squares and sets, written plainly: what the library's answers are compared with.
+"""The definitions of document 01, and of document 02's tickets 5 and 14, on full squares and sets, written plainly: what the library's answers are compared with.
 
 Rows, columns and steps count from 1 in `plan_of`, as in the paper, and from 0 in the elimination, as in numpy.
 """
@@ -6,6 +6,8 @@ Rows, columns and steps count from 1 in `plan_of`, as in the paper, and from 0 i
 from typing import NamedTuple
 
 import numpy as np
+
+LEAST_PIVOT = 2.0**-1022  # the least magnitude of a pivot
 
 
 class Planned(NamedTuple):
@@ -57,23 +59,31 @@ def shared(n, side, handed, first_met):
 
 
 class State:
-    """The full square, its right side, pivot rows and updates, at some step."""
+    """The full square, its right side, pivot rows and updates, at some step.
+
+    by_limit     stopped with 13 for the least magnitude of a pivot alone: the entry is not zero
+    passed_over  steps whose column had a fainter entry than that beside the pivot
+    """
 
     def __init__(self, square, right):
         self.square, self.right = square.copy(), right.copy()
         self.pivots, self.updates = np.full(len(right), -1), 0
+        self.by_limit, self.passed_over = False, 0
 
     def copy(self):
         """The state as it is now."""
         twin = State(self.square, self.right)
         twin.pivots, twin.updates = self.pivots.copy(), self.updates
+        twin.by_limit, twin.passed_over = self.by_limit, self.passed_over
         return twin
 
     def step(self, k, p):
         """Step k with pivot row p: 0, 13 or 14."""
         square, right = self.square, self.right
-        if square[p, k] == 0:
+        if abs(square[p, k]) < LEAST_PIVOT:
+            self.by_limit = bool(square[p, k] != 0)
             return 13
+        self.passed_over += bool(np.any((square[k:, k] != 0) & (np.abs(square[k:, k]) < LEAST_PIVOT)))
         square[[k, p], k:] = square[[p, k], k:]
         right[[k, p]] = right[[p, k]]
         self.pivots[k] = p
@@ -107,12 +117,15 @@ class State:
 
 
 def largest(state, k):
-    """The row from k on with the largest magnitude in column k, the lowest if equal."""
-    return k + int(np.argmax(np.abs(state.square[k:, k])))
+    """The row from k on with the largest magnitude in column k that a pivot may have, the lowest if equal; where there is none, one to be refused."""
+    magnitudes = np.abs(state.square[k:, k])
+    serving = np.where(magnitudes >= LEAST_PIVOT, magnitudes, 0.0)
+    return k + int(np.argmax(serving if serving.any() else magnitudes))
 
 
 def outcomes(square, right, choose, cuts):
-    """For each cut, and for None (whole): (number, step, state). `choose` gives the pivot row of a state and step."""
+    """For each cut, and for None (whole): (number, step, state), the state of a run that stopped being as it stopped. `choose` gives the pivot
+    row of a state and step."""
     found, state, n = {}, State(square, right), len(right)
     with np.errstate(all="ignore"):
         for k in range(n + 1):
@@ -120,7 +133,7 @@ def outcomes(square, right, choose, cuts):
                 found[k] = (0, 0, state.copy())
             number = state.step(k, choose(state, k)) if k < n else 0
             if number:
-                stopped = (number, k + 1, None)
+                stopped = (number, k + 1, state)
                 return {**{cut: stopped for cut in (*cuts, None)}, **found}
         row = state.back()
     found[None] = (14, row, None) if row else (0, 0, state)

@@ -4,6 +4,8 @@ from typing import NamedTuple
 
 import numpy as np
 
+from reference import LEAST_PIVOT
+
 
 class System(NamedTuple):
     """A pattern (columns from 0 of each row), its values in order, and a right side."""
@@ -41,7 +43,7 @@ def powers(random, count):
 def subnormal(random, count):
     """Subnormal numbers among powers of two: products and quotients that round or vanish."""
     tiny = random.integers(-2**20, 2**20, count) * 5e-324
-    return np.where(random.random(count) < 0.5, tiny, powers(random, count) * np.exp2(-1000 * (random.random(count) < 0.3)))
+    return np.where(random.random(count) < 0.3, tiny, powers(random, count) * np.exp2(-1000 * (random.random(count) < 0.3)))
 
 
 def wide(random, count):
@@ -54,7 +56,15 @@ def tiny_pivots(random, count):
     return ordinary(random, count) * np.where(random.random(count) < 0.2, 1e-200, 1.0)
 
 
-KINDS = (ordinary, small, powers, subnormal, wide, tiny_pivots)
+def around_limit(random, count):
+    """The least magnitude of a pivot, its neighbours, and quarters of it, whose differences are often fainter; some whole numbers."""
+    near = ((1 << 52) + random.integers(-2, 3, count)).view(float)
+    quarters = random.integers(1, 9, count) * (LEAST_PIVOT / 4)
+    way = random.random(count)
+    return random.choice([-1.0, 1.0], count) * np.where(way < 0.35, near, np.where(way < 0.7, quarters, random.integers(1, 4, count)))
+
+
+KINDS = (ordinary, small, powers, subnormal, wide, tiny_pivots, around_limit)
 
 
 def random_system(random, most):
@@ -76,10 +86,10 @@ def with_zeros(random, numbers):
 
 
 def random_list(random, chosen):
-    """A chooser that takes, mostly, some row with a nonzero entry, and notes it in `chosen`."""
+    """A chooser that takes, mostly, some row whose entry may be a pivot, and notes it in `chosen`."""
 
     def choose(state, k):
-        candidates = k + np.flatnonzero(state.square[k:, k])
+        candidates = k + np.flatnonzero(np.abs(state.square[k:, k]) >= LEAST_PIVOT)
         if candidates.size == 0 or random.random() < 0.01:
             candidates = np.arange(k, len(state.right))
         chosen[k] = random.choice(candidates)

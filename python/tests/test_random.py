@@ -32,7 +32,8 @@ class RandomSystems(unittest.TestCase):
     def test_bits_equal_the_dense_elimination(self):
         self.compare_many(SYSTEMS, 16, seed=20261115)
         self.assertGreater(self.seen["finished", None], SYSTEMS)
-        for what in ("13", "14 in a step", "14 in back substitution", "-0", "subnormal", "slot of 0", "exchange"):
+        refused = ("13", "13 by the limit alone", "14 in a step", "14 in back substitution")
+        for what in (*refused, "past fainter entries", "-0", "subnormal", "slot of 0", "exchange"):
             self.assertGreater(self.seen[what], 20, what)
 
     def compare(self, random, system):
@@ -58,6 +59,7 @@ class RandomSystems(unittest.TestCase):
         else:
             run = plan.run(*arguments)
             self.note_finished(run)
+            self.seen["past fainter entries"] += state.passed_over > 0
             self.assertEqual(bits(run.square()), bits(state.square))
             self.assertEqual(bits(run.x), bits(state.right))
             self.assertEqual(run.pivot_rows.tolist(), state.pivots.tolist())
@@ -76,9 +78,10 @@ class RandomSystems(unittest.TestCase):
 
     def note_refusals(self, outcomes, n):
         """A whole run that is refused after its last step is refused in back substitution."""
-        number = outcomes[None][0]
+        number, _, state = outcomes[None]
         place = " in a step" if outcomes[n][0] else " in back substitution"
         self.seen["14" + place if number == 14 else str(number)] += 1
+        self.seen["13 by the limit alone"] += number == 13 and state.by_limit
 
     def note_finished(self, run):
         every = np.concatenate((run.l, run.u, run.d, run.x))

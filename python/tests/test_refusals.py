@@ -147,6 +147,22 @@ class OfRuns(unittest.TestCase):
         self.assertIsNone(refusal_of(plan.run, singular, np.ones(3), steps=1))
         self.assertEqual(refusal_of(dalumiveth.splu, singular), (13, 2))
 
+    def test_13_by_the_limit(self):
+        """Document 02, ticket 14: 2^-1022 may be a pivot, the largest number below it may not, of either sign."""
+        limit = 2.0**-1022
+        faint = np.nextafter(limit, 0)
+        for sign in (-1.0, 1.0):
+            one = diagonal(1, [sign * limit])
+            self.assertEqual(dalumiveth.plan(one).run(one, np.array([limit])).x.tolist(), [sign])
+            self.assertEqual(refusal_of(dalumiveth.splu, diagonal(1, [sign * faint])), (13, 1))
+            two = csr(2, [[0, 1], [0, 1]], [sign * faint, 1, limit, 1])
+            plan = dalumiveth.plan(two)
+            self.assertEqual(plan.run(two, np.ones(2)).pivot_rows.tolist(), [1, 1])
+            self.assertEqual(plan.run(two, np.ones(2), [1, 1]).pivot_rows.tolist(), [1, 1])
+            self.assertEqual(refusal_of(plan.run, two, np.ones(2), [0, 1]), (13, 1))
+            self.assertEqual(refusal_of(plan.run, two, np.ones(2), [0, 1], 1), (13, 1))
+            self.assertIsNone(refusal_of(plan.run, two, np.ones(2), [0, 1], 0))
+
     def test_14_not_finite(self):
         quotient = csr(2, [[0, 1], [0, 1]], [1e-300, 1, 1e300, 1])
         plan = dalumiveth.plan(quotient)
@@ -238,6 +254,7 @@ class Sentences(unittest.TestCase):
             self.assertIn(refusal.where, ("pattern", "plan stores", "values", "run", "job", "tally"))
             again = pickle.loads(pickle.dumps(refusal))
             self.assertEqual((again.number, again.step, str(again)), (number, 7, str(refusal)))
+        self.assertIn("an entry of magnitude at least 2^-1022", dalumiveth.Refusal(13, 7).sentence)
 
 
 if __name__ == "__main__":

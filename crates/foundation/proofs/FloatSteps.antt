@@ -7,14 +7,14 @@ use Prim.Native.Nat.{ℕ, zero, suc, _+_, _≤_, _<_}
 use native.Mathlib.Decide.{decLt}
 use native.Mathlib.Omega.{arith}
 use lib.Dec.{eqb, ltb, leb}
-use lib.Ieee.{Float, nan, inf, fin, eq, lt}
+use lib.Ieee.{Float, nan, inf, fin, eq, lt, le}
 use lib.IntN.{pos, negsuc}
 use lib.ListN.{length, getD}
-use borrow.Author.Tests.{eqb-true, leb-true, eq-eqb, ne-eqb, lt-ltb, le-ltb, not-true}
+use borrow.Author.Tests.{eqb-true, leb-true, eq-eqb, ne-eqb, lt-ltb, le-ltb}
 use Rattle.lists.specs.Sets.{member, between}
 use Rattle.lists.proofs.Members.{by-test, and-left, and-right, or-right, fails, member-head, member-tail, between-low, between-high}
 use Rattle.foundation.specs.Closed.{StepOn, marked}
-use Rattle.foundation.specs.Numbers.{plusZero, isZero, magnitude, mayPivot, isPlusZero}
+use Rattle.foundation.specs.Numbers.{plusZero, isZero, magnitude, leastPivot, mayPivot, isPlusZero}
 use Rattle.foundation.specs.Pattern.{Pattern}
 use Rattle.foundation.specs.Reference.{Choice, largest, listed, better, best, pivotRow, multiplier, reduced, eliminated, Going, stepped}
 use Rattle.foundation.specs.RunCall.{rowsInRange, choiceFits}
@@ -52,10 +52,14 @@ plus-zero-zero x e = rw (plus-zero-is x e) zero-plus-zero
 pub nonzero-not-plus : (x : Float) → isZero x ≡ false → isPlusZero x ≡ false
 nonzero-not-plus x e = fails (isPlusZero x) (λ t. false≢true (sym e ∙ plus-zero-zero x t))
 
+-- +0 cannot be a pivot.
+pub plus-zero-faint : mayPivot plusZero ≡ false
+unfolding mayPivot leastPivot magnitude plusZero le lt eq
+plus-zero-faint = refl
+
 -- What may be a pivot is not +0.
 pub pivot-not-plus : (x : Float) → mayPivot x ≡ true → isPlusZero x ≡ false
-unfolding mayPivot
-pivot-not-plus x e = nonzero-not-plus x (not-true (isZero x) e)
+pivot-not-plus x e = fails (isPlusZero x) (λ t. false≢true (sym plus-zero-faint ∙ ap mayPivot (sym (plus-zero-is x t)) ∙ e))
 
 -- ---- one step
 

@@ -1,20 +1,21 @@
 -- The pivot row of a step: the fold over the rows from k on gives the lowest row of the largest magnitude. Magnitudes of finite numbers are compared as
 -- fractions, crosswise.
-use mathlib.Core.Bool.{Bool, true, false, false≢true}
-use mathlib.Core.Path.{_≡_, refl, sym, ap, subst, _∙_}
+use mathlib.Core.Bool.{true, false, not, _&&_, _||_, false≢true}
+use mathlib.Core.Path.{_≡_, refl, sym, subst, _∙_}
 use Prim.Native.Nat.{ℕ, zero, suc, _+_, _-_, _*_, _≤_, _<_}
 use native.Mathlib.Decide.{decLt}
-use native.Mathlib.Nat.{zero-mul, mul-pos, mul-right-comm, mul-le-mul-right, mul-lt-mul-of-pos-right, lt-of-mul-lt-mul-right}
+use native.Mathlib.Nat.{mul-right-comm, mul-le-mul-right, mul-lt-mul-of-pos-right, lt-of-mul-lt-mul-right}
 use native.Mathlib.Omega.{arith}
 use lib.Dec.{eqb, ltb}
-use lib.Ieee.{Float, nan, inf, fin, up, down, level, lt, eq}
+use lib.Ieee.{Float, nan, inf, fin, up, down, lt, eq, le}
 use lib.Ieee.Fits.{down-pos}
-use borrow.Author.Tests.{ltb-true, ltb-false, lt-ltb, le-ltb, eqb-true, eqb-false, not-true, not-false}
+use lib.IntN.{negsuc}
+use borrow.Author.Tests.{ltb-true, ltb-false, lt-ltb, le-ltb, eqb-true, eqb-false, ne-eqb, not-true, not-false}
 use Rattle.lists.specs.Sets.{run, between}
-use Rattle.lists.proofs.Members.{by-test, and-left}
+use Rattle.lists.proofs.Members.{by-test, or-right}
 use Rattle.lists.proofs.Small.{less-one}
 use Rattle.foundation.specs.Claims.{LargestFrom, LargestRow, ListedRow}
-use Rattle.foundation.specs.Numbers.{plusZero, isZero, finite, magnitude, mayPivot}
+use Rattle.foundation.specs.Numbers.{finite, magnitude, leastPivot, mayPivot}
 use Rattle.foundation.specs.Reference.{better, best, pivotRow}
 
 -- ---- magnitudes as fractions
@@ -44,34 +45,6 @@ less-is (fin s m e) nan f g = absurd (false≢true g)
 less-is (fin s m e) (inf t) f g = absurd (false≢true g)
 less-is (fin s m e) (fin t n d) f g = refl
 
--- a finite number is a zero just where `over` is 0
-flat : (a b : ℕ) → a * 1 ≡ 0 * b → a ≡ 0
-flat a b h = omega (arith, h, zero-mul b)
-
-level-zero : (s : Bool) (a b : ℕ) → a ≡ 0 → b ≡ 0 → level s a false b ≡ true
-level-zero false a b p q = rw (p, q)
-level-zero true a b p q = rw (p, q)
-
-no-pivot-zero : (x : Float) → finite x ≡ true → mayPivot x ≡ false → over x ≡ 0
-unfolding finite mayPivot isZero plusZero eq over
-no-pivot-zero nan f e = absurd (false≢true f)
-no-pivot-zero (inf s) f e = absurd (false≢true f)
-no-pivot-zero (fin s m d) f e =
-    let zero-of : level s (m * up d * 1) false (0 * down d) ≡ true = not-false _ e in
-    flat (m * up d) (down d) (eqb-true _ _ (and-left (eqb (m * up d * 1) (0 * down d)) _ zero-of))
-
-pivot-positive : (x : Float) → finite x ≡ true → mayPivot x ≡ true → 0 < over x
-unfolding finite mayPivot isZero plusZero eq over
-pivot-positive nan f e = absurd (false≢true f)
-pivot-positive (inf s) f e = absurd (false≢true f)
-pivot-positive (fin s m d) f e =
-    by-test (eqb (m * up d) 0)
-    (λ t.
-    let none : m * up d ≡ 0 = eqb-true _ _ t in
-    let zero-of : level s (m * up d * 1) false (0 * down d) ≡ true = level-zero s (m * up d * 1) (0 * down d) (omega arith) (zero-mul (down d)) in
-    absurd (false≢true (sym (not-true _ e) ∙ zero-of)))
-    (λ t. let some : m * up d ≡ 0 → ⊥ = eqb-false _ _ t in omega (arith, some))
-
 -- ---- the order of magnitudes
 
 -- a/u is below c/w and not below b/v, so b/v is below c/w
@@ -81,21 +54,10 @@ crosswise a u b v c w positive below above =
     (omega (arith, mul-right-comm b w u, mul-le-mul-right w above, mul-right-comm a v w, mul-lt-mul-of-pos-right below positive, mul-right-comm c u v))
 
 module _ (x y : Float) (f : finite x ≡ true) (g : finite y ≡ true) where
-  reverse : lt (magnitude x) (magnitude y) ≡ true → lt (magnitude y) (magnitude x) ≡ false
+  pub reverse : lt (magnitude x) (magnitude y) ≡ true → lt (magnitude y) (magnitude x) ≡ false
   reverse e =
       let below : over x * under y < over y * under x = ltb-true (over x * under y) (over y * under x) (sym (less-is x y f g) ∙ e) in
       rw (less-is y x g f) (le-ltb (over y * under x) (over x * under y) (omega arith))
-
-  not-below-zero : mayPivot y ≡ false → lt (magnitude x) (magnitude y) ≡ false
-  not-below-zero e =
-      let nothing : over y * under x ≡ 0 = ap (λ (v : ℕ). v * under x) (no-pivot-zero y g e) ∙ zero-mul (under x) in
-      rw (less-is x y f g) (le-ltb (over x * under y) (over y * under x) (omega arith))
-
-  zero-below : mayPivot x ≡ false → mayPivot y ≡ true → lt (magnitude x) (magnitude y) ≡ true
-  zero-below e may =
-      let nothing : over x * under y ≡ 0 = ap (λ (v : ℕ). v * under y) (no-pivot-zero x f e) ∙ zero-mul (under y) in
-      let something : 0 < over y * under x = mul-pos (pivot-positive y g may) (under-positive x) in
-      rw (less-is x y f g) (lt-ltb (over x * under y) (over y * under x) (omega arith))
 
 not-below-self : (x : Float) → finite x ≡ true → lt (magnitude x) (magnitude x) ≡ false
 not-below-self x f = rw (less-is x x f f) (le-ltb (over x * under x) (over x * under x) (omega arith))
@@ -109,6 +71,44 @@ passed-on x y z f g h below above =
     (lt-ltb _ _
     (crosswise (over x) (under x) (over y) (under y) (over z) (under z) (under-positive y) (ltb-true _ _ (sym (less-is x z f h) ∙ below))
     (ltb-false _ _ (sym (less-is x y f g) ∙ above))))
+
+-- ---- the limit of a pivot
+
+-- at least is not below
+not-less : (a b : ℕ) → ltb a b || (eqb a b && true) ≡ not (ltb b a)
+not-less a b =
+    elim (decLt b a) [
+      | yes l ↦ rw (lt-ltb b a l, le-ltb a b (omega arith), ne-eqb a b (λ q. omega arith))
+      | no l ↦
+          by-test (eqb a b)
+          (λ e. let same = eqb-true a b e in rw (e, le-ltb b a (omega arith), or-right (ltb a b) true refl))
+          (λ e. let other = eqb-false a b e in rw (e, le-ltb b a (omega arith), lt-ltb a b (omega (arith, other))))
+    ]
+
+-- a finite number serves where it is not below the limit
+pub may-pivot : (x : Float) → finite x ≡ true → mayPivot x ≡ not (lt (magnitude x) leastPivot)
+unfolding finite mayPivot magnitude leastPivot le lt eq
+may-pivot nan f = absurd (false≢true f)
+may-pivot (inf s) f = absurd (false≢true f)
+may-pivot (fin s m e) f = not-less (1 * up (negsuc 1021) * down e) (m * up e * down (negsuc 1021))
+
+limit-finite : finite leastPivot ≡ true
+unfolding finite leastPivot
+limit-finite = refl
+
+limit-magnitude : magnitude leastPivot ≡ leastPivot
+unfolding magnitude leastPivot
+limit-magnitude = refl
+
+module _ (x y : Float) (f : finite x ≡ true) (g : finite y ≡ true) (faint : mayPivot x ≡ false) (may : mayPivot y ≡ true) where
+  -- what cannot serve is below what may
+  pub faint-below : lt (magnitude x) (magnitude y) ≡ true
+  faint-below =
+      by-test (lt (magnitude x) (magnitude y)) (λ below. below)
+      (λ above.
+      let x-below : lt (magnitude x) (magnitude leastPivot) ≡ true = rw limit-magnitude (not-false _ (sym (may-pivot x f) ∙ faint)) in
+      let y-below : lt (magnitude y) (magnitude leastPivot) ≡ true = passed-on x y leastPivot f g limit-finite x-below above in
+      absurd (false≢true (sym (not-true _ (sym (may-pivot y g) ∙ may)) ∙ rw limit-magnitude at y-below)))
 
 -- ---- the row
 
@@ -162,7 +162,7 @@ module _ (last k : ℕ) (entry : ℕ → Float) (low : 1 ≤ k) (sound : (i : �
       (λ e.
       rw (may, e)
       (takes-over end from high may
-      (λ i a b. zero-below (entry i) (entry end) (sound i a (omega arith)) (sound end from high) (was .without (eqb-true r 0 e) i a b) may)))
+      (λ i a b. faint-below (entry i) (entry end) (sound i a (omega arith)) (sound end from high) (was .without (eqb-true r 0 e) i a b) may)))
       (λ e.
       let some : r ≡ 0 → ⊥ = eqb-false r 0 e in
       let one : 1 ≤ r = omega (arith, some) in
@@ -179,7 +179,8 @@ module _ (last k : ℕ) (entry : ℕ → Float) (low : 1 ≤ k) (sound : (i : �
       (stays end r was (λ z. no)
       (λ one.
       let within : (k ≤ r) × (r < end) × (mayPivot (entry r) ≡ true) = was .found one in
-      not-below-zero (entry r) (entry end) (sound r (within .0) (omega (arith, within .1))) (sound end from high) no)))
+      let leader : finite (entry r) ≡ true = sound r (within .0) (omega (arith, within .1)) in
+      reverse (entry end) (entry r) (sound end from high) leader (faint-below (entry end) (entry r) (sound end from high) leader no (within .2)))))
 
   best-leads :
       (count end r : ℕ) → k ≤ end → (1 ≤ count → end + count ≤ suc last) → Leads k end entry r → (stop : ℕ) → end + count ≡ stop

@@ -32,6 +32,7 @@ pub mod StoresOpen
 pub mod PlannedRun
 pub mod LargestRow
 pub mod FiniteRun
+pub mod PivotSteps
 pub mod LargestSteps
 pub mod Theorems
 pub mod Open

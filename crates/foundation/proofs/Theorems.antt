@@ -12,7 +12,7 @@ use Rattle.foundation.specs.Plan.{Side, plan}
 use Rattle.foundation.specs.Subscripts.{kept}
 use Rattle.foundation.specs.RunCall.{Lending, allFinite, valueAt, rightAt}
 use Rattle.foundation.specs.Facts.{PlanFacts, Opens, sizesOf}
-use Rattle.foundation.specs.Claims.{FirstHalf, RunsOn, SlotsSuffice, MultipliersStay, ZeroOutside, LaidBack, OwnSlots, SlotsWithin, MetOnce, JobRoom, RunsAlike, ListedPivots, PivotsCounted, PlanAccepted, RoomEnough, SlotsEnough, PlannedRunsAlike, LargestRow, ListedRow, StoresOpen, FiniteGiven, FiniteThroughout, LargestAtEveryStep, AnswerRoom}
+use Rattle.foundation.specs.Claims.{FirstHalf, RunsOn, SlotsSuffice, MultipliersStay, ZeroOutside, LaidBack, OwnSlots, SlotsWithin, MetOnce, JobRoom, RunsAlike, ListedPivots, PivotsCounted, PlanAccepted, RoomEnough, SlotsEnough, PlannedRunsAlike, LargestRow, ListedRow, StoresOpen, FiniteGiven, FiniteThroughout, LargestAtEveryStep, PivotsReach, ListedStops, LegalLists, AnswerRoom}
 use Rattle.foundation.proofs.Passing.{passes-plannable, passes-entries}
 use Rattle.foundation.proofs.Steps.{list-none}
 use Rattle.foundation.proofs.PlanFacts.{plan-facts}
@@ -36,6 +36,7 @@ use Rattle.foundation.proofs.LargestRow
 use Rattle.foundation.proofs.StoresOpen.{stores-open-from}
 use Rattle.foundation.proofs.FiniteRun
 use Rattle.foundation.proofs.LargestSteps
+use Rattle.foundation.proofs.PivotSteps
 
 -- the plan's facts
 pub plan-has-its-facts : (most : ℕ) (p : Lent) → patternFault most p ≡ 0 → PlanFacts (patternOf p) (plan (patternOf p))
@@ -150,3 +151,13 @@ given-finite = FiniteRun.given-finite
 -- so at every step its pivot row is the lowest of those with the largest magnitude, and 13 is given just where there is none
 pub largest-at-every-step : LargestAtEveryStep
 largest-at-every-step = LargestSteps.largest-at-every-step
+
+-- the pivots of a run that goes on meet the limit; by a list, 13 is given just where its row does not; a list is legal just where its pivots do
+pub pivots-reach : PivotsReach
+pivots-reach = PivotSteps.pivots-reach
+
+pub listed-stops : ListedStops
+listed-stops = PivotSteps.listed-stops
+
+pub legal-lists : LegalLists
+legal-lists = PivotSteps.legal-lists

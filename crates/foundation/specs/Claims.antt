@@ -6,7 +6,7 @@ use mathlib.Core.Logic.{_↔_}
 use mathlib.Core.Path.{_≡_}
 use Prim.Native.Nat.{ℕ, _+_, _-_, _*_, _≤_, _<_}
 use lib.Dec.{eqb, ltb}
-use lib.Ieee.{Float, lt}
+use lib.Ieee.{Float, lt, le}
 use lib.ListN.{length, getD, take, drop}
 use Rattle.lists.specs.Functions.{keep, chain, padded}
 use Rattle.lists.specs.Sets.{upto}
@@ -15,20 +15,21 @@ use Rattle.foundation.specs.Pattern.{Lent, Pattern, present, patternOf, 
 use Rattle.foundation.specs.Plan.{Planning, Side, plan, lower, upper}
 use Rattle.foundation.specs.Subscripts.{kept, roomFault}
 use Rattle.foundation.specs.Slots.{Slot, none, onDiagonal, inSide, hasSlot, slotAt, slotsOf}
-use Rattle.foundation.specs.Numbers.{plusZero, finite, magnitude, mayPivot}
+use Rattle.foundation.specs.Numbers.{plusZero, finite, magnitude, leastPivot, mayPivot}
 use Rattle.foundation.specs.Square.{Square}
 use Rattle.foundation.specs.Reference.{Choice, largest, listed, Extent, whole, cut, stepsOf, pivotRow, noPivot, Going, Course, going, stopped, numberOf, reference}
 use Rattle.foundation.specs.Shown.{shown, shownDiagonal, laid}
 use Rattle.foundation.specs.Free.{FreeStep, FreeState, freeStart, freeRun, freeAfter}
 use Rattle.foundation.specs.PlanCall.{SideStores, PlanStores, LentPlan, WorkSizes, workFits, sizesFit, agrees, countsOf, planned, planLeaves, held}
-use Rattle.foundation.specs.RunCall.{Lending, lendingFits, allFinite, orderFits, valueAt, rightAt, Ran, ranWith, ran, runAnswer, RunStores, runLeaves}
+use Rattle.foundation.specs.RunCall.{Lending, lendingFits, allFinite, choiceFits, orderFits, valueAt, rightAt, Ran, ranWith, ran, legal, runAnswer, RunStores, runLeaves}
 use Rattle.foundation.specs.Job.{Job}
 use Rattle.foundation.specs.Printing.{jobRun, printed}
 
 -- Demand 3, first half, "one claim about the whole list of steps, the empty list included": for every pattern that can be planned, every set of
 -- numbers at its places (of any kind A, of which only whether one is zero counts), and every list of steps of the free elimination, refused steps
 -- included: after the first t of them, for every t, each nonzero of the square stands in one of the plan's slots, and what then stands before column k,
--- multipliers among it, stands there after the first t′ steps too, for every t′ from t on.
+-- multipliers among it, stands there after the first t′ steps too, for every t′ from t on. Any pivot that is not zero will do: the limit of Ticket 14 is one of runs alone, whose
+-- steps are among these.
 unfoldable pub FirstHalf : Type 1
 FirstHalf =
     (most : ℕ) (p : Lent)
@@ -250,8 +251,8 @@ PlannedRunsAlike =
 -- ---- the pivot row of a step
 
 -- Document 01, "Elimination": r is "the row from k to n with the largest magnitude in column k, the lowest row number if equal", n being `last`: it lies
--- there and its entry is no zero, no entry there has a larger magnitude, and each before it has a smaller one. Table, 13: r is 0 just where "no row
--- from k on (..) has a nonzero entry".
+-- there and its entry may serve, no entry there has a larger magnitude, and each before it has a smaller one. Document 02, Ticket 14: "choice among rows
+-- passes over the rest, and 13 is given where none is left": r is 0 just where no entry there may serve.
 pub record LargestFrom (k last : ℕ) (entry : ℕ → Float) (r : ℕ) : Type 0 where
   pub without : (r ≡ 0) ↔ ((i : ℕ) → (k ≤ i) × (i ≤ last) → mayPivot (entry i) ≡ false)
   pub found : 1 ≤ r → (k ≤ r) × (r ≤ last) × (mayPivot (entry r) ≡ true)
@@ -266,7 +267,7 @@ LargestRow =
     → ((i : ℕ) → (k ≤ i) × (i ≤ last) → finite (entry i) ≡ true)
     → LargestFrom k last entry (pivotRow largest last k entry)
 
--- "or row p_k of a given list": the row of a step by a list is p_k if its entry is no zero, else there is none (13).
+-- "or row p_k of a given list": the row of a step by a list is p_k if its entry may serve, else there is none (13).
 unfoldable pub ListedRow : Type 0
 ListedRow =
     (rows : List ℕ) (last k : ℕ) (entry : ℕ → Float)
@@ -320,8 +321,8 @@ FiniteThroughout =
 
 -- Document 01, "Elimination": "At step k the pivot row is the row from k to n with the largest magnitude in column k, the lowest row number if equal", at every step of
 -- a run, the rows going to `height`, in document 01 n. For every pattern, finite values and right sides and a run by the largest entry, whole or cut, and each of its
--- steps k: where the run goes on, it went on after k-1 steps, and p_k is that row in column k of the square that those steps left. Table, 13, "at step k no row from k
--- on (..) has a nonzero entry": a run that came to step k stops there with 13 just where that column has none.
+-- steps k: where the run goes on, it went on after k-1 steps, and p_k is that row in column k of the square that those steps left. Document 02, Ticket 14, "13 is given
+-- where none is left": a run that came to step k stops there with 13 just where no row from k on has an entry in that column that may serve.
 unfoldable pub LargestAtEveryStep : Type 0
 LargestAtEveryStep =
     (p : Pattern) (extent : Extent)
@@ -340,3 +341,42 @@ LargestAtEveryStep =
     → reference largest (cut (k - 1)) p values right ≡ going before
     → (reference largest extent p values right ≡ stopped noPivot k)
     ↔ ((i : ℕ) → (k ≤ i) × (i ≤ p .height) → mayPivot ((before .square) i k) ≡ false))
+
+-- ---- the limit of a pivot, written out, so that these can be read without `mayPivot`
+
+-- Document 02, Ticket 14: "A pivot must have magnitude at least 2 to the power -1022". For every pattern, all values and right sides, either choice of rows and every
+-- list and extent that 12 lets pass: a run whole or cut that goes on has at place (k, k), for each of its steps k, the number that row p_k had in column k before that
+-- step, which is the step's pivot; and its magnitude is at least 2 to the power -1022.
+unfoldable pub PivotsReach : Type 0
+PivotsReach =
+    (p : Pattern) (choice : Choice) (extent : Extent) (order : orderFits p choice extent ≡ true) (values : Square Float) (right : ℕ → Float) (g : Going)
+    → reference choice extent p values right ≡ going g
+    → (k : ℕ) (range : (1 ≤ k) × (k ≤ stepsOf extent (p .n)))
+    → (before : Going)
+    × (reference choice (cut (k - 1)) p values right ≡ going before)
+    × ((g .square) k k ≡ (before .square) (getD (g .pivots) (k - 1) 0) k)
+    × (le leastPivot (magnitude ((g .square) k k)) ≡ true)
+
+-- "13 is given where none is left or the listed row is fainter". Where none is left: `LargestAtEveryStep`. By a list: for every pattern, all values and right sides and every
+-- list and extent that 12 lets pass, a run that came to step k stops there with 13 just where the entry of row p_k in column k of the square that the steps before left does not
+-- reach 2 to the power -1022.
+unfoldable pub ListedStops : Type 0
+ListedStops =
+    (p : Pattern) (rows : List ℕ) (extent : Extent) (order : orderFits p (listed rows) extent ≡ true) (values : Square Float) (right : ℕ → Float)
+    → (k : ℕ) (steps : (1 ≤ k) × (k ≤ stepsOf extent (p .n))) (before : Going)
+    → reference (listed rows) (cut (k - 1)) p values right ≡ going before
+    → (reference (listed rows) extent p values right ≡ stopped noPivot k)
+    ↔ (le leastPivot (magnitude ((before .square) (getD rows (k - 1) 0) k)) ≡ false)
+
+-- "Legal row lists are those whose pivots meet this limit": of the lists that 12 lets pass, those with which, at each step k that the reference comes to, the entry of row p_k in
+-- column k meets it.
+unfoldable pub LegalLists : Type 0
+LegalLists =
+    (p : Lent) (w : Lending) (rows : List ℕ)
+    → (legal p w rows ≡ true)
+    ↔ ((choiceFits (patternOf p) (listed rows) ≡ true)
+    × ((k : ℕ)
+    → (1 ≤ k) × (k ≤ p .n)
+    → (before : Going)
+    → reference (listed rows) (cut (k - 1)) (patternOf p) (valueAt p (w .values)) (rightAt (w .right)) ≡ going before
+    → le leastPivot (magnitude ((before .square) (getD rows (k - 1) 0) k)) ≡ true))

@@ -24,7 +24,8 @@ module _ {ℓ} {A : Type ℓ} where
   unfoldable pub freeStart : Pattern → A → Square A → FreeState A
   freeStart p zero values = record { k = 1; square = placed p zero values }
 
-  -- "A step is taken if k is at most n, p is a row from k on, and row p's entry in column k is not zero."
+  -- "A step is taken if k is at most n, p is a row from k on, and row p's entry in column k is not zero." Numbers have no magnitude here, so the
+  -- least magnitude of a pivot (document 02, Ticket 14) is not asked: every pivot that meets it differs from zero, so the steps of runs are among these.
   unfoldable pub taken : Pattern → (A → Bool) → FreeState A → FreeStep A → Bool
   taken p isZero s step =
       leb (s .k) (p .n) && ((leb (s .k) (step .row) && leb (step .row) (p .height)) && not (isZero ((s .square) (step .row) (s .k))))

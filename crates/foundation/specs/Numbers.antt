@@ -1,7 +1,7 @@
 -- What the elimination asks of an f64: zero of either sign, finite, magnitude, and the operations with one rounding each.
-use mathlib.Core.Bool.{Bool, true, false, not}
+use mathlib.Core.Bool.{Bool, true, false}
 use Prim.Native.Nat.{ℕ, zero, suc}
-use lib.Ieee.{Float, nan, inf, fin, binary64, sub, mul, div, eq, toBits, ofBits}
+use lib.Ieee.{Float, nan, inf, fin, binary64, sub, mul, div, eq, le, toBits, ofBits}
 use lib.IntN.{pos, negsuc}
 
 -- +0: what stands at every place outside the pattern (document 01, "Elimination": "+0 outside the pattern").
@@ -35,9 +35,14 @@ magnitude nan = nan
 magnitude (inf s) = inf false
 magnitude (fin s m e) = fin false m e
 
--- Table, 13: "has a nonzero entry": what may serve as a pivot.
+-- "2 to the power -1022": the least magnitude in the normal range of a 64-bit float
+unfoldable pub leastPivot : Float
+leastPivot = fin false 1 (negsuc 1021)
+
+-- What may serve as a pivot. Document 02, Ticket 14: "A pivot must have magnitude at least 2 to the power -1022". Nothing else asks this of a number: below the
+-- pivot and right of it one that is fainter is a nonzero as any other ("Multipliers and updates treat such entries as today").
 unfoldable pub mayPivot : Float → Bool
-mayPivot x = not (isZero x)
+mayPivot x = le leastPivot (magnitude x)
 
 -- Document 01, "Elimination": "place - m × u: the product is rounded once, then the difference".
 unfoldable pub product : Float → Float → Float

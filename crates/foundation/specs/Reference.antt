@@ -30,7 +30,8 @@ stepsOf (cut s) n = s
 
 -- ---- the pivot row of a step
 
--- of two rows the one with the larger entry, "the lowest row number if equal"; `best` is 0 while no row has served
+-- of two rows the one with the larger entry, "the lowest row number if equal"; `best` is 0 while no row has served. Document 02, Ticket 14: "choice among rows passes over
+-- the rest", those that may not serve, so two of these are never compared.
 unfoldable pub better : (ℕ → Float) → ℕ → ℕ → ℕ
 better entry best i = cond (mayPivot (entry i) && (eqb best 0 || lt (magnitude (entry best)) (magnitude (entry i)))) i best
 
@@ -40,7 +41,8 @@ best entry found [] = found
 best entry found (i ∷ rows) = best entry (better entry found i) rows
 
 -- The row of step k by its column's entries, 0 where there is none. "At step k the pivot row is the row from k to n with the largest
--- magnitude in column k, the lowest row number if equal; or row p_k of a given list." p_k stands at place k-1 of the list.
+-- magnitude in column k, the lowest row number if equal; or row p_k of a given list." p_k stands at place k-1 of the list. Ticket 14: "13 is given where none is left or the
+-- listed row is fainter".
 unfoldable pub pivotRow : Choice → ℕ → ℕ → (ℕ → Float) → ℕ
 pivotRow largest height zero entry = 0
 pivotRow largest height (suc before) entry = best entry 0 (between (suc before) height)
@@ -101,7 +103,7 @@ soundStep height n k square right = all (soundRow n k square right) (between (su
 
 -- ---- a run
 
--- Table, 13 and 14.
+-- Table, 13, as Ticket 14 of document 02 has it, and 14.
 pub data Reason : Type 0 where
   noPivot notFinite : Reason
 

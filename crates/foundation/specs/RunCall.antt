@@ -99,7 +99,8 @@ lacksPivot (going g) = false
 lacksPivot (stopped noPivot k) = true
 lacksPivot (stopped notFinite k) = false
 
--- Document 01, "Free elimination", its own term: "A list that 12 lets pass is legal unless the reference with it stops with 13."
+-- Document 01, "Free elimination", its own term: "A list that 12 lets pass is legal unless the reference with it stops with 13." Document 02, Ticket 14: "Legal row lists
+-- are those whose pivots meet this limit", which is what the reference asks of a pivot.
 unfoldable pub legal : Lent → Lending → List ℕ → Bool
 legal p w rows =
     choiceFits (patternOf p) (listed rows)

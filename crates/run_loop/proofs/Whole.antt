@@ -23,7 +23,7 @@ use Rattle.foundation.proofs.FloatRun.{Alike, ended-keeps, steps-fit}
 use Rattle.foundation.proofs.FiniteRun.{number-finite}
 use Rattle.foundation.proofs.FloatSteps.{is-plus-zero}
 use Rattle.foundation.proofs.FreeSteps.{marked-present, columns-from-one}
-use Rattle.foundation.proofs.LargestSteps.{ended-stopped}
+use Rattle.foundation.proofs.PivotSteps.{ended-stopped}
 use Rattle.answers.specs.RunStores.{runStores}
 use Rattle.answers.specs.declared.RunOutcome.{RunOutcome}
 use Rattle.answers.specs.declared.RunOutcome.the-variants.{Finished, Stopped}

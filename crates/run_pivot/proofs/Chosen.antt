@@ -6,8 +6,7 @@ use mathlib.Core.Path.{_≡_, refl, sym, ap, _∙_}
 use Prim.Native.Nat.{ℕ, zero, suc, _-_, _≤_, _<_}
 use native.Mathlib.Omega.{arith}
 use lib.Dec.{eqb}
-use lib.Ieee.{Float, fin, nan, ne}
-use lib.IntN.{pos}
+use lib.Ieee.{Float, nan}
 use lib.ListN.{length, getD, length-map}
 use borrow.Author.Tests.{eqb-true}
 use Rattle.lists.specs.Functions.{all}
@@ -15,11 +14,11 @@ use Rattle.lists.specs.Sets.{member, Ascending}
 use Rattle.lists.proofs.Members.{and-left, and-right}
 use Rattle.lists.proofs.Order.{ascending-weaken}
 use Rattle.lists.proofs.Places.{getD-mapped}
-use Rattle.foundation.specs.Numbers.{plusZero, isZero, finite, mayPivot}
+use Rattle.foundation.specs.Numbers.{finite, mayPivot}
 use Rattle.foundation.specs.Pattern.{Pattern}
 use Rattle.foundation.specs.Reference.{Choice, largest, listed, pivotRow}
 use Rattle.foundation.specs.RunCall.{rowsInRange, choiceFits}
-use Rattle.foundation.proofs.FloatSteps.{zero-plus-zero, rows-at}
+use Rattle.foundation.proofs.FloatSteps.{plus-zero-faint, rows-at}
 use Rattle.run_slots.specs.Handing.{asked}
 use Rattle.store_search.specs.Places.{FirstFrom}
 use Rattle.store_search.proofs.Places.{found-none}
@@ -28,32 +27,23 @@ use Rattle.run_pivot.proofs.Best.{pivot-sparse}
 
 -- ---- the listed row
 
--- zero of either sign, as the code asks
-zero-cannot : (v : Float) → ne v (fin false 0 (pos 0)) ≡ false → mayPivot v ≡ false
-unfolding mayPivot isZero ne plusZero
-zero-cannot v t = t
-
-nonzero-may : (v : Float) → ne v (fin false 0 (pos 0)) ≡ true → mayPivot v ≡ true
-unfolding mayPivot isZero ne plusZero
-nonzero-may v t = t
-
 module _ (k asks : ℕ) (own : Float) (slots : List Float) (subs : List ℕ) where
-  pub listed-own : asks ≡ k → ne own (fin false 0 (pos 0)) ≡ true → ListedFound k asks own slots subs k 0
-  listed-own same t = record { is = λ entry o s none. rw (same, o, nonzero-may own t); found-at = inr (inl refl) }
+  pub listed-own : asks ≡ k → mayPivot own ≡ true → ListedFound k asks own slots subs k 0
+  listed-own same t = record { is = λ entry o s none. rw (same, o, t); found-at = inr (inl refl) }
 
-  pub listed-own-zero : asks ≡ k → ne own (fin false 0 (pos 0)) ≡ false → ListedFound k asks own slots subs 0 0
-  listed-own-zero same t = record { is = λ entry o s none. rw (same, o, zero-cannot own t); found-at = inl refl }
+  pub listed-own-faint : asks ≡ k → mayPivot own ≡ false → ListedFound k asks own slots subs 0 0
+  listed-own-faint same t = record { is = λ entry o s none. rw (same, o, t); found-at = inl refl }
 
   module _ (place : ℕ) (inside : place < length subs) (at : getD subs place 0 ≡ asks) where
     entry-at : (entry : ℕ → Float) → slots ≡ map entry subs → entry asks ≡ getD slots place nan
     entry-at entry s = rw (← at) (sym (ap (λ (zs : List Float). getD zs place nan) s ∙ getD-mapped entry subs place nan inside))
 
-    pub listed-found : ne (getD slots place nan) (fin false 0 (pos 0)) ≡ true → ListedFound k asks own slots subs asks place
+    pub listed-found : mayPivot (getD slots place nan) ≡ true → ListedFound k asks own slots subs asks place
     listed-found t =
-        record { is = λ entry o s none. rw (entry-at entry s, nonzero-may _ t); found-at = inr (inr (inside, sym at)) }
+        record { is = λ entry o s none. rw (entry-at entry s, t); found-at = inr (inr (inside, sym at)) }
 
-    pub listed-zero : ne (getD slots place nan) (fin false 0 (pos 0)) ≡ false → ListedFound k asks own slots subs 0 0
-    listed-zero t = record { is = λ entry o s none. rw (entry-at entry s, zero-cannot _ t); found-at = inl refl }
+    pub listed-faint : mayPivot (getD slots place nan) ≡ false → ListedFound k asks own slots subs 0 0
+    listed-faint t = record { is = λ entry o s none. rw (entry-at entry s, t); found-at = inl refl }
 
   -- a row that stands nowhere
   pub listed-none : (asks ≡ k → ⊥) → (place : ℕ) → Ascending 0 subs → FirstFrom subs asks place
@@ -99,8 +89,7 @@ module _ (k row : ℕ) (own : Float) (slots : List Float) (subs : List ℕ) (w :
   subs-ascend = ascending-weaken 0 (suc k) subs (omega arith) (w .ascends)
 
   outside-none : (x : ℕ) → k < x → x ≤ w .n → member x subs ≡ false → mayPivot (w .entry x) ≡ false
-  unfolding mayPivot
-  outside-none x l u m = rw (w .outside x l u m, zero-plus-zero)
+  outside-none x l u m = ap mayPivot (w .outside x l u m) ∙ plus-zero-faint
 
   -- a choice that asks for a row is a list, one that asks for none is not
   pub largest-is : row ≡ 0 → (found place : ℕ) → LargestFound k own slots subs found place → PivotLeaves found place k row own slots subs w

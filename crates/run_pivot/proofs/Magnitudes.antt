@@ -1,6 +1,6 @@
 -- Laws of f64 for the choice by magnitude: which numbers are zero, and what lies above what.
 use mathlib.Core.Bool.{Bool, true, false, true≢false}
-use mathlib.Core.Path.{_≡_, refl, sym, _∙_}
+use mathlib.Core.Path.{_≡_, refl, sym, ap, _∙_}
 use Prim.Native.Nat.{ℕ, zero, suc, _+_, _*_, _<_}
 use native.Mathlib.Nat.{zero-mul, mul-pos}
 use native.Mathlib.Omega.{arith}
@@ -9,7 +9,8 @@ use lib.Ieee.{Float, nan, inf, fin, up, down, neg, lt, eq}
 use lib.IntN.{ℤ, pos, negsuc}
 use lib.Pow.{pow-pos}
 use borrow.Author.Tests.{ne-eqb, lt-ltb, le-ltb}
-use Rattle.foundation.specs.Numbers.{plusZero, isZero, finite, magnitude}
+use Rattle.lists.proofs.Members.{by-test}
+use Rattle.foundation.specs.Numbers.{plusZero, isZero, magnitude}
 use Rattle.run_slots.proofs.Floats.{down-positive}
 use Rattle.run_pivot.specs.Pivot.{absolute}
 
@@ -20,7 +21,7 @@ up-positive (negsuc k) = omega arith
 scaled-positive : (m : ℕ) (e d : ℤ) → 0 < suc m * up e * down d
 scaled-positive m e d = mul-pos (mul-pos (omega arith) (up-positive e)) (down-positive d)
 
-scaled-zero : (e d : ℤ) → 0 * up e * down d ≡ 0
+pub scaled-zero : (e d : ℤ) → 0 * up e * down d ≡ 0
 scaled-zero e d = rw (zero-mul, zero-mul)
 
 -- zero is a significand of 0
@@ -31,6 +32,13 @@ zero-fin false zero e = rw (scaled-zero e (pos 0), scaled-zero (pos 0) e)
 zero-fin s (suc m) e =
     let h = scaled-positive m e (pos 0) in
     rw (scaled-zero (pos 0) e, ne-eqb (suc m * up e * down (pos 0)) 0 (λ q. omega arith), ne-eqb (suc m) 0 (λ q. omega arith))
+
+pub zero-form : (v : Float) → isZero v ≡ true → (s : Bool) × (e : ℤ) × (v ≡ fin s zero e)
+unfolding isZero eq plusZero
+zero-form nan z = absurd (true≢false (sym z))
+zero-form (inf s) z = absurd (true≢false (sym z))
+zero-form (fin s (suc m) e) z = absurd (true≢false (sym z ∙ zero-fin s (suc m) e ∙ ne-eqb (suc m) 0 (λ q. omega arith)))
+zero-form (fin s zero e) z = (s, e, refl)
 
 -- the two arms of the code
 pub absolute-negated : (v : Float) → lt v (fin false 0 (pos 0)) ≡ true → neg v ≡ absolute v
@@ -63,31 +71,24 @@ magnitude-positive nan = not-a-number
 magnitude-positive (inf s) = infinite
 magnitude-positive (fin s m e) = number m e
 
-pub zero-positive : Positive plusZero
-unfolding plusZero
-zero-positive = number 0 (pos 0)
-
-zero-never : {top : Float} → Positive top → (s : Bool) (e : ℤ) → lt top (fin s zero e) ≡ false
+-- a zero of either sign is above none of them
+pub zero-never : {top : Float} → Positive top → (s : Bool) (e : ℤ) → lt top (fin s zero e) ≡ false
 unfolding lt
 zero-never not-a-number s e = refl
 zero-never infinite s e = refl
 zero-never (number m d) true e = refl
 zero-never (number m d) false e = rw (scaled-zero e d, le-ltb (m * up d * down e) 0 (omega arith))
 
--- a zero is above nothing
-pub zero-not-above : (top v : Float) → Positive top → isZero v ≡ true → lt top (absolute v) ≡ false
-unfolding absolute lt neg isZero eq plusZero
-zero-not-above top nan p z = absurd (true≢false (sym z))
-zero-not-above top (inf s) p z = absurd (true≢false (sym z))
-zero-not-above top (fin s (suc m) e) p z =
-    absurd (true≢false (sym z ∙ zero-fin s (suc m) e ∙ ne-eqb (suc m) 0 (λ q. omega arith)))
-zero-not-above top (fin true zero e) p z = rw (scaled-zero e (pos 0), scaled-zero (pos 0) e) (zero-never p true e)
-zero-not-above top (fin false zero e) p z = rw (scaled-zero e (pos 0), scaled-zero (pos 0) e) (zero-never p false e)
+-- in the code a zero keeps its sign
+pub absolute-zero : (s : Bool) (e : ℤ) → absolute (fin s zero e) ≡ fin s zero e
+unfolding absolute lt
+absolute-zero true e = rw (scaled-zero e (pos 0), scaled-zero (pos 0) e)
+absolute-zero false e = rw (scaled-zero e (pos 0), scaled-zero (pos 0) e)
 
--- a finite number that is not zero is above +0
-pub nonzero-above : (v : Float) → finite v ≡ true → isZero v ≡ false → lt plusZero (magnitude v) ≡ true
-unfolding finite magnitude lt plusZero
-nonzero-above nan f z = absurd (true≢false (sym f))
-nonzero-above (inf s) f z = absurd (true≢false (sym f))
-nonzero-above (fin s zero e) f z = absurd (true≢false (sym (zero-fin s zero e) ∙ z))
-nonzero-above (fin s (suc m) e) f z = rw (scaled-zero (pos 0) e) (lt-ltb 0 (suc m * up e * down (pos 0)) (scaled-positive m e (pos 0)))
+-- which changes nothing that a search for the largest asks
+pub above-is : (top v : Float) → Positive top → lt top (absolute v) ≡ lt top (magnitude v)
+unfolding magnitude
+above-is top v p =
+    by-test (isZero v)
+    (λ z. let (s, e, form) = zero-form v z in rw form (ap (lt top) (absolute-zero s e) ∙ zero-never p s e ∙ sym (zero-never p false e)))
+    (λ z. ap (lt top) (absolute-nonzero v z))

@@ -37,8 +37,8 @@ numberCases =
     ∷ row (pattern plusZero ∷ []) (0x0000000000000000 ∷ [])
     -- "Zero means +0 or -0."
     ∷ row (flags (map isZero (floats kinds))) (1 ∷ 1 ∷ 0 ∷ 0 ∷ 0 ∷ 0 ∷ 0 ∷ 0 ∷ 0 ∷ [])
-    -- 13: "has a nonzero entry"
-    ∷ row (flags (map mayPivot (floats kinds))) (0 ∷ 0 ∷ 1 ∷ 1 ∷ 1 ∷ 1 ∷ 1 ∷ 1 ∷ 1 ∷ [])
+    -- 13, by Ticket 14 of document 02: "A pivot must have magnitude at least 2 to the power -1022", with either sign; what is not a number has none
+    ∷ row (flags (map mayPivot (floats kinds))) (0 ∷ 0 ∷ 0 ∷ 1 ∷ 1 ∷ 1 ∷ 1 ∷ 1 ∷ 0 ∷ [])
     -- 11: "a value or right side is not finite": neither infinity is, nor what is not a number
     ∷ row (flags (map finite (floats kinds))) (1 ∷ 1 ∷ 1 ∷ 1 ∷ 1 ∷ 1 ∷ 0 ∷ 0 ∷ 0 ∷ [])
     -- "the largest magnitude": without the sign

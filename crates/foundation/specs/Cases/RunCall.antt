@@ -54,6 +54,10 @@ lend values right solution pivots diagonal lowerSlots upperSlots =
 abbrev pub fits : Lending
 fits = lend values right 3 3 3 2 4
 
+-- values (1,0), (1,0), (0,x), x being the negative of the largest number below the least pivot
+abbrev pub faintAtThree : Lending
+faintAtThree = lend (0x3FF0000000000000 ∷ 0 ∷ 0x3FF0000000000000 ∷ 0 ∷ 0 ∷ 0x800FFFFFFFFFFFFF ∷ []) right 3 3 3 2 4
+
 abbrev pub run : Choice → Extent → Lending → Answer Ran
 run choice extent w = ran 1024 threeFields threePlan (work (3 ∷ []) (4 ∷ []) (6 ∷ [])) choice extent w
 
@@ -101,6 +105,9 @@ runCases =
     ∷ case (says (run (listed (3 ∷ 3 ∷ 3 ∷ [])) whole fits)) ((0 ∷ 13 ∷ 2 ∷ []) ∷ [])
     ∷ case (leaves fits (run (listed (3 ∷ 3 ∷ 3 ∷ [])) whole fits))
     (replicate 2 0 ∷ replicate 4 0 ∷ replicate 3 0 ∷ replicate 3 0 ∷ replicate 3 0 ∷ [])
+    -- Ticket 14: "13 is given where none is left": row 3 just below the limit at step 3
+    ∷ case (says (run largest whole faintAtThree)) ((0 ∷ 13 ∷ 3 ∷ []) ∷ [])
+    ∷ case (leaves faintAtThree (run largest whole faintAtThree)) (replicate 2 0 ∷ replicate 4 0 ∷ replicate 3 0 ∷ replicate 3 0 ∷ replicate 3 0 ∷ [])
     -- a refusal leaves stores of whatever length zero: 10 by stores of five lengths
     ∷ case (leaves (lend values right 1 2 4 5 6) (run largest whole (lend values right 1 2 4 5 6)))
     (replicate 5 0 ∷ replicate 6 0 ∷ replicate 4 0 ∷ replicate 1 0 ∷ replicate 2 0 ∷ [])
@@ -184,6 +191,12 @@ orderCases =
     ∷ row
     (flag (legal threeFields (lend (0x3FE0000000000000 ∷ 0 ∷ 0x3FF0000000000000 ∷ 0 ∷ 0x7FEFFFFFFFFFFFFF ∷ 0x3FF0000000000000 ∷ []) right 3 3 3 1 2) (1 ∷ 2 ∷ 3 ∷ [])) ∷ [])
     (1 ∷ [])
+    -- Ticket 14: "Legal row lists are those whose pivots meet this limit": row 1 just below it at step 1, and row 3 with 1 for it; row 1 at the limit; row 3 just below it
+    -- and at it at step 3
+    ∷ row (flags (map (legal threeFields (lend (0x000FFFFFFFFFFFFF ∷ replicate 5 0x3FF0000000000000) right 3 3 3 1 2)) ((1 ∷ 2 ∷ 3 ∷ []) ∷ (3 ∷ 2 ∷ 3 ∷ []) ∷ []))) (0 ∷ 1 ∷ [])
+    ∷ row (flag (legal threeFields (lend (0x0010000000000000 ∷ replicate 5 0x3FF0000000000000) right 3 3 3 1 2) (1 ∷ 2 ∷ 3 ∷ [])) ∷ []) (1 ∷ [])
+    ∷ row (flag (legal threeFields faintAtThree (1 ∷ 2 ∷ 3 ∷ [])) ∷ []) (0 ∷ [])
+    ∷ row (flag (legal threeFields (lend (0x3FF0000000000000 ∷ 0 ∷ 0x3FF0000000000000 ∷ 0 ∷ 0 ∷ 0x8010000000000000 ∷ []) right 3 3 3 1 2) (1 ∷ 2 ∷ 3 ∷ [])) ∷ []) (1 ∷ [])
     -- "p_k is below k or above n": rows go to the last, of which there may be more than steps; the list is as long as there are steps
     ∷ row (flags (rowsInRange 3 2 (2 ∷ 3 ∷ []) ∷ rowsInRange 3 2 (3 ∷ 2 ∷ []) ∷ rowsInRange 3 2 (2 ∷ 4 ∷ []) ∷ rowsInRange 3 2 [] ∷ [])) (1 ∷ 0 ∷ 0 ∷ 1 ∷ [])
     ∷ row

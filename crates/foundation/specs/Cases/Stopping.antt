@@ -8,7 +8,7 @@ use Rattle.foundation.specs.Cases.Show.{three}
 
 unfoldable pub stopCases : List Case
 stopCases =
-    -- 13: "at step k no row from k on (..) has a nonzero entry": step 2, though row 1 has one; step 3 of a zero of either sign
+    -- 13: "at step k no row from k on (..) has a nonzero entry" (one that is too faint: Cases/Faint): step 2, though row 1 has one; step 3 of a zero of either sign
     -- 1 1 1 | 1, 1 1 1 | 1, 1 1 2 | 1
     case (solve three largest whole
     ((0x3FF0000000000000 ∷ 0x3FF0000000000000 ∷ 0x3FF0000000000000 ∷ [])

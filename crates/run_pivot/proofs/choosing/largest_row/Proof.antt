@@ -3,9 +3,10 @@ use Prim.Native.Nat.{_≤_, _-_}
 use mathlib.Core.Logic.{⊎-elim}
 use mathlib.Core.Path.{_≡_, refl}
 use lib.Ieee.{ofBits}
+use lib.Ieee.Bits.{is-true}
 use lib.ListN.{length}
 use borrow.Author.Needs.{needs}
-use Rattle.foundation.specs.Numbers.{plusZero}
+use Rattle.run_pivot.proofs.Limit.{largestFaint}
 use Rattle.run_pivot.proofs.Seeking.{Seeking, seeking-own, seeking-none, seeking-taken, seeking-left, seeking-end, seeking-named}
 use Rattle.run_pivot.proofs.choosing.largest_row.Statement.{statement}
 use Rattle.run_pivot.proofs.choosing.largest_row.Tie as tie
@@ -20,17 +21,17 @@ size-requires : tie.Need-size-requires Inv-loop μ-loop
 size-requires c κs = search needs
 
 loop-holds : tie.Need-loop-holds Inv-loop μ-loop
-unfolding ofBits plusZero
+unfolding ofBits largestFaint
 loop-holds c =
     let b = c .before .before .before .before in
     let e = c .before .size .ensures in (
       search needs,
       search needs,
       ⊎-elim
-          (λ x. seeking-named _ _ _ _ _ _ _ _ _ _ _ (x .1) refl (x .2) (seeking-own (b .args .k) (b .args .own) _ _ (b .pre .1) (b .pre .3) 0 _ e
-          (x .0 .taken)))
-          (λ x. seeking-named _ _ _ _ _ _ _ _ _ _ _ (x .1) refl (x .2) (seeking-none (b .args .k) (b .args .own) _ _ (b .pre .1) (b .pre .3) 0 _ e
-          (x .0 .left)))
+          (λ x. seeking-named _ _ _ _ _ _ _ _ _ _ _ (x .1) refl (x .2) (seeking-own (b .args .k) (b .args .own) _ _ (b .pre .1) (b .pre .3) (b .good .1 .0 .1)
+          0 _ e (x .0 .taken)))
+          (λ x. seeking-named _ _ _ _ _ _ _ _ _ _ _ (x .1) refl (x .2) (seeking-none (b .args .k) (b .args .own) _ _ (b .pre .1) (b .pre .3) (b .good .1 .0 .1)
+          0 _ e (x .0 .left)))
           (c .if1 .came),
     )
 
@@ -63,11 +64,12 @@ loop-again c =
     let e = c .before .size2 .ensures in (
       search needs,
       search needs,
-      ⊎-elim
+      let held = is-true _ (c .before .before .shared-slice-known3 .given (l .q)) in
+          ⊎-elim
           (λ x. seeking-named _ _ _ _ _ _ _ _ _ _ _ (x .2) (x .3) (x .4) (seeking-taken _ _ _ _ _ _ _ (l .q) (l .inv .2) (l .inv .1) (p .2) (p .4)
-          (search needs) _ e (x .0 .taken)))
+          (search needs) held _ e (x .0 .taken)))
           (λ x. seeking-named _ _ _ _ _ _ _ _ _ _ _ (x .1) (x .2) (x .3) (seeking-left _ _ _ _ _ _ _ (l .q) (l .inv .2) (l .inv .1) (p .2) (p .4)
-          (search needs) _ e (x .0 .left)))
+          (search needs) held _ e (x .0 .left)))
           (c .if2 .came),
     )
 

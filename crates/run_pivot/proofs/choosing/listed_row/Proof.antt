@@ -1,18 +1,19 @@
 -- `listed_row` meets its contract: an answer for each place where the row may stand.
+use mathlib.Core.Path.{sym, _∙_}
 use native.Mathlib.Omega.{arith}
-use lib.Ieee.{ofBits}
-use Rattle.run_pivot.proofs.Chosen.{listed-own, listed-own-zero, listed-found, listed-zero, listed-none}
+use Rattle.run_pivot.proofs.Chosen.{listed-own, listed-own-faint, listed-found, listed-faint, listed-none}
 use borrow.Author.Needs.{needs}
 use Rattle.run_pivot.proofs.choosing.listed_row.Statement.{statement}
 use Rattle.run_pivot.proofs.choosing.listed_row.Tie as tie
 
+serves-requires : tie.Need-serves-requires
+serves-requires c κs = tt
+
 returns : tie.Need-returns
-unfolding ofBits
-returns c = listed-own _ _ _ _ _ (c .before .if1 .taken) (c .if2 .taken)
+returns c = listed-own _ _ _ _ _ (c .before .before .if1 .taken) (sym (c .before .serves .ensures) ∙ c .if2 .taken)
 
 returns-2 : tie.Need-returns-2
-unfolding ofBits
-returns-2 c = listed-own-zero _ _ _ _ _ (c .before .if1 .taken) (c .if2 .left)
+returns-2 c = listed-own-faint _ _ _ _ _ (c .before .before .if1 .taken) (sym (c .before .serves .ensures) ∙ c .if2 .left)
 
 place-of-requires : tie.Need-place-of-requires
 place-of-requires c κs = tt
@@ -29,13 +30,18 @@ mul-entry c = search needs
 shared-slice-read-entry : tie.Need-shared-slice-read-entry
 shared-slice-read-entry c = search needs
 
+serves-requires-2 : tie.Need-serves-requires-2
+serves-requires-2 c κs = tt
+
 returns-3 : tie.Need-returns-3
-unfolding ofBits
-returns-3 c = listed-found _ _ _ _ _ _ (c .before .before .before .before .if3 .taken) (c .before .before .if4 .taken) (c .if5 .taken)
+returns-3 c =
+    let b = c .before .before .before in
+    listed-found _ _ _ _ _ _ (b .before .before .if3 .taken) (b .if4 .taken) (sym (c .before .serves2 .ensures) ∙ c .if5 .taken)
 
 returns-4 : tie.Need-returns-4
-unfolding ofBits
-returns-4 c = listed-zero _ _ _ _ _ _ (c .before .before .before .before .if3 .taken) (c .before .before .if4 .taken) (c .if5 .left)
+returns-4 c =
+    let b = c .before .before .before in
+    listed-faint _ _ _ _ _ _ (b .before .before .if3 .taken) (b .if4 .taken) (sym (c .before .serves2 .ensures) ∙ c .if5 .left)
 
 returns-5 : tie.Need-returns-5
 returns-5 c =
@@ -53,6 +59,7 @@ pub listed-row-spec : {M : Type 1} → statement M
 listed-row-spec =
     tie.close
     (tie.spec
+    serves-requires
     returns
     returns-2
     place-of-requires
@@ -60,6 +67,7 @@ listed-row-spec =
     shared-slice-read-if4
     mul-entry
     shared-slice-read-entry
+    serves-requires-2
     returns-3
     returns-4
     returns-5
