@@ -2,7 +2,6 @@
 -- and that back substitution changes the right side alone.
 use mathlib.Core.Bool.{true, false, not, false≢true}
 use mathlib.Core.List.{List, [], _∷_, _++_}
-use mathlib.Core.Logic.{_⊎_, inl, inr}
 use mathlib.Core.Path.{_≡_, refl, sym, ap, subst, _∙_}
 use Prim.Native.Nat.{ℕ, zero, suc, _+_, _≤_, _<_}
 use native.Mathlib.Decide.{decLt}
@@ -24,7 +23,7 @@ use Rattle.foundation.specs.Slots.{slotIn, hasSlot}
 use Rattle.foundation.specs.Square.{Square, placed}
 use Rattle.foundation.proofs.Containment.{held-at-start, held-after-step, contained}
 use Rattle.foundation.proofs.FreeSteps.{marked-present, columns-from-one}
-use Rattle.foundation.proofs.FloatSteps.{plus-zero-is, is-plus-zero, stepped-on, pivot-cases}
+use Rattle.foundation.proofs.FloatSteps.{plus-zero-is, is-plus-zero, stepped-on, pivot-found}
 
 -- ---- a step that was done
 
@@ -62,17 +61,7 @@ pub pivot-in-range :
     (p : Pattern) (choice : Choice) → choiceFits p choice ≡ true → (t : ℕ) → t < p .n → {c : Course} {g : Going}
     → (d : Did choice (p .height) (p .n) (suc t) c g)
     → (suc t ≤ d .row) × (d .row ≤ p .height) × (mayPivot ((d .was .square) (d .row) (suc t)) ≡ true)
-pivot-in-range p choice fits t h d =
-    rw (d .chosen) at (from-cases (pivot-cases p choice fits t h (λ i. (d .was .square) i (suc t))))
-  where
-    r : ℕ
-    r = pivotRow choice (p .height) (suc t) (λ i. (d .was .square) i (suc t))
-
-    from-cases :
-        (r ≡ 0) ⊎ ((suc t ≤ r) × (r ≤ p .height) × (mayPivot ((d .was .square) r (suc t)) ≡ true))
-        → (suc t ≤ r) × (r ≤ p .height) × (mayPivot ((d .was .square) r (suc t)) ≡ true)
-    from-cases (inl e) = absurd (omega (arith, d .chosen, d .found))
-    from-cases (inr f) = f
+pivot-in-range p choice fits t h d = pivot-found p choice fits t h (λ i. (d .was .square) i (suc t)) (d .row) (d .chosen) (d .found)
 
 -- ---- the run
 

@@ -1,7 +1,7 @@
 -- The reference run stays in the slots of lists that are closed: each step that it does is a step on the places whose bits are not +0's.
 use mathlib.Core.Bool.{true, false, _&&_, _||_, false≢true}
 use mathlib.Core.List.{List, [], _∷_}
-use mathlib.Core.Logic.{_⊎_, inl, inr}
+use mathlib.Core.Logic.{_⊎_, inl, inr, ⊎-elim}
 use mathlib.Core.Path.{_≡_, refl, sym, ap, _∙_}
 use Prim.Native.Nat.{ℕ, zero, suc, _+_, _≤_, _<_}
 use native.Mathlib.Decide.{decLt}
@@ -178,7 +178,7 @@ best-cases entry found (i ∷ rows) =
     taken e (inr m) = inr (member-tail _ i rows (m .0), m .1)
 
 -- Of rows in range from step k on, the one for step k + i lies from k + i to the last row.
-pub rows-at :
+rows-at :
     (height k : ℕ) (rows : List ℕ) (i : ℕ) → rowsInRange height k rows ≡ true → i < length rows
     → (k + i ≤ getD rows i 0) × (getD rows i 0 ≤ height)
 unfolding rowsInRange
@@ -191,11 +191,21 @@ rows-at height k (p ∷ ps) (suc i) e l =
     let (low, high) = rows-at height (suc k) ps i (and-right (leb k p && leb p height) (rowsInRange height (suc k) ps) e) (omega arith) in
     (omega arith, high)
 
+-- The row that a list has for step t + 1, where 12 lets the list pass, lies from that step to the last row.
+pub listed-in-range :
+    (p : Pattern) (rows : List ℕ) → choiceFits p (listed rows) ≡ true → (t : ℕ) → t < p .n
+    → (suc t ≤ getD rows t 0) × (getD rows t 0 ≤ p .height)
+unfolding choiceFits
+listed-in-range p rows fits t h =
+    let long : length rows ≡ p .n = eqb-true _ _ (and-left (eqb (length rows) (p .n)) (rowsInRange (p .height) 1 rows) fits) in
+    let (low, high) = rows-at (p .height) 1 rows t (and-right (eqb (length rows) (p .n)) (rowsInRange (p .height) 1 rows) fits) (omega arith) in
+    (omega arith, high)
+
 -- The pivot row of a step up to n is 0 or a row from the step on that may be a pivot.
-pub pivot-cases :
+pivot-cases :
     (p : Pattern) (choice : Choice) → choiceFits p choice ≡ true → (t : ℕ) → t < p .n → (entry : ℕ → Float)
     → let r = pivotRow choice (p .height) (suc t) entry in (r ≡ 0) ⊎ ((suc t ≤ r) × (r ≤ p .height) × (mayPivot (entry r) ≡ true))
-unfolding choiceFits pivotRow
+unfolding pivotRow
 pivot-cases p largest fits t h entry = from (best-cases entry 0 (between (suc t) (p .height)))
   where
     from :
@@ -205,12 +215,14 @@ pivot-cases p largest fits t h entry = from (best-cases entry 0 (between (suc t)
     from (inl e) = inl e
     from (inr m) = inr (between-low _ _ _ (m .0), between-high _ _ _ (m .0), m .1)
 pivot-cases p (listed rows) fits t h entry =
+    let (low, high) = listed-in-range p rows fits t h in
     by-test (mayPivot (entry (getD rows t 0)))
-    (λ m. rw m (inr (in-range .0, in-range .1, m)))
+    (λ m. rw m (inr (low, high, m)))
     (λ m. rw m (inl refl))
-  where
-    in-range : (suc t ≤ getD rows t 0) × (getD rows t 0 ≤ p .height)
-    in-range =
-        let long : length rows ≡ p .n = eqb-true _ _ (and-left (eqb (length rows) (p .n)) (rowsInRange (p .height) 1 rows) fits) in
-        let (low, high) = rows-at (p .height) 1 rows t (and-right (eqb (length rows) (p .n)) (rowsInRange (p .height) 1 rows) fits) (omega arith) in
-        (omega arith, high)
+
+-- A pivot row that is found lies from the step on to the last row, and may be a pivot.
+pub pivot-found :
+    (p : Pattern) (choice : Choice) → choiceFits p choice ≡ true → (t : ℕ) → t < p .n → (entry : ℕ → Float) (r : ℕ)
+    → pivotRow choice (p .height) (suc t) entry ≡ r → 1 ≤ r → (suc t ≤ r) × (r ≤ p .height) × (mayPivot (entry r) ≡ true)
+pivot-found p choice fits t h entry r e some =
+    rw e at (⊎-elim (λ none. absurd (omega (arith, e))) (λ found. found) (pivot-cases p choice fits t h entry))

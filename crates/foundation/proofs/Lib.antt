@@ -30,6 +30,7 @@ pub mod Enough
 pub mod Accepted
 pub mod StoresOpen
 pub mod PlannedRun
+pub mod Magnitudes
 pub mod LargestRow
 pub mod FiniteRun
 pub mod PivotSteps

@@ -1,25 +1,24 @@
 -- The pivot of every step of a run, by either choice of rows: which row it comes from, where it stays and how large it is; and where a run stops with 13.
 use mathlib.Core.Bool.{true, false, not, true≢false, false≢true}
 use mathlib.Core.List.{List, [], _∷_, _++_}
-use mathlib.Core.Logic.{_↔_, ⊎-elim}
+use mathlib.Core.Logic.{_↔_}
 use mathlib.Core.Path.{_≡_, refl, sym, ap, subst, _∙_}
 use Prim.Native.Nat.{ℕ, zero, suc, _+_, _-_, _≤_, _<_}
 use native.Mathlib.Decide.{decLt}
 use native.Mathlib.Omega.{arith}
-use lib.Dec.{eqb}
 use lib.Ieee.{Float}
 use lib.ListN.{length, getD, List·getD-append}
 use lib.Seq.{getD-append-add}
-use borrow.Author.Tests.{eqb-true, not-true}
+use borrow.Author.Tests.{not-true}
 use Rattle.lists.proofs.Members.{by-test, and-left, and-right, and-both, fails}
 use Rattle.lists.proofs.Small.{less-one}
 use Rattle.foundation.specs.Claims.{PivotsReach, ListedStops, LegalLists}
 use Rattle.foundation.specs.Numbers.{mayPivot}
-use Rattle.foundation.specs.Pattern.{Lent, Pattern, patternOf}
+use Rattle.foundation.specs.Pattern.{Pattern, patternOf}
 use Rattle.foundation.specs.Reference.{Choice, listed, Extent, whole, cut, stepsOf, pivotRow, eliminated, Reason, noPivot, notFinite, Going, Course, going, stopped, stepped, soundWith, stepWith, step, running, solvedRow, back, solved, ended, reference}
-use Rattle.foundation.specs.RunCall.{Lending, valueAt, rightAt, rowsInRange, choiceFits, extentFits, orderFits, lacksPivot, legal}
+use Rattle.foundation.specs.RunCall.{valueAt, rightAt, choiceFits, extentFits, orderFits, lacksPivot, legal}
 use Rattle.foundation.specs.Square.{Square, exchanged}
-use Rattle.foundation.proofs.FloatSteps.{eliminated-above, eliminated-left, rows-at, pivot-cases}
+use Rattle.foundation.proofs.FloatSteps.{eliminated-above, eliminated-left, listed-in-range, pivot-found}
 use Rattle.foundation.proofs.FloatRun.{runTo, run-did, pivots-length, steps-fit, reference-keeps}
 use Rattle.foundation.proofs.FreeSteps.{swap-first, exchanged-left, exchanged-right}
 
@@ -203,9 +202,8 @@ module _ (p : Pattern) (choice : Choice) (extent : Extent) (order : orderFits p 
   reaches t high g e =
       let c = chosen-by p choice values right extent t high g e in
       let within = steps-fit p extent (and-right (choiceFits p choice) (extentFits p extent) order) in
-      let serves : mayPivot ((c .before .square) (getD (g .pivots) t 0) (suc t)) ≡ true =
-      ⊎-elim (λ none. absurd (omega (arith, c .row, c .some))) (λ found. rw (c .row) at (found .2))
-      (pivot-cases p choice (and-left (choiceFits p choice) (extentFits p extent) order) t (omega arith) (λ i. (c .before .square) i (suc t))) in
+      let (low, high, serves) =
+      pivot-found p choice (and-left (choiceFits p choice) (extentFits p extent) order) t (omega arith) (λ i. (c .before .square) i (suc t)) (getD (g .pivots) t 0) (c .row) (c .some) in
       (c .before, c .from, c .pivot, rw (c .pivot) serves)
 
 pub pivots-reach : PivotsReach
@@ -219,22 +217,17 @@ pivots-reach p choice extent order values right g e (suc t) (low, high) = rw (le
 listed-without :
     (p : Pattern) (rows : List ℕ) → choiceFits p (listed rows) ≡ true → (t : ℕ) → t < p .n → (entry : ℕ → Float)
     → (pivotRow (listed rows) (p .height) (suc t) entry ≡ 0) ↔ (mayPivot (entry (getD rows t 0)) ≡ false)
-unfolding choiceFits pivotRow
+unfolding pivotRow
 listed-without p rows fits t l entry = (
-  λ none. fails (mayPivot (entry (getD rows t 0))) (λ may. let zero-row : getD rows t 0 ≡ 0 = rw may at none in omega (arith, in-range)),
+  λ none. fails (mayPivot (entry (getD rows t 0)))
+      (λ may. let zero-row : getD rows t 0 ≡ 0 = rw may at none in omega (arith, listed-in-range p rows fits t l .0)),
   λ faint. rw faint,
 )
-  where
-    in-range : 1 ≤ getD rows t 0
-    in-range =
-        let long : length rows ≡ p .n = eqb-true _ _ (and-left (eqb (length rows) (p .n)) (rowsInRange (p .height) 1 rows) fits) in
-        let (low, high) = rows-at (p .height) 1 rows t (and-right (eqb (length rows) (p .n)) (rowsInRange (p .height) 1 rows) fits) (omega arith) in
-        omega arith
 
 pub listed-stops : ListedStops
 unfolding ListedStops mayPivot reference ended stepsOf orderFits
-listed-stops p rows extent order values right zero (low, high) before e = absurd (no-step low)
-listed-stops p rows extent order values right (suc t) (low, high) before e =
+listed-stops p rows extent order values right zero before (low, high) e = absurd (no-step low)
+listed-stops p rows extent order values right (suc t) before (low, high) e =
     rw (less-one t) (at (rw (less-one t) at e))
   where
     at :

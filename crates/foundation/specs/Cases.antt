@@ -1,5 +1,5 @@
--- Tables of small computed cases, one for each part of the definitions. A row sets what a definition yields beside what document 01 says, and names
--- the sentence that it holds. Numbers f64 are given and expected as bit patterns in hexadecimal. What the rows expect was worked out from document 01
+-- Tables of small computed cases, one for each part of the definitions. A row sets what a definition yields beside what documents 01 and 02 say, and
+-- names the sentence that it holds. Numbers f64 are given and expected as bit patterns in hexadecimal. What the rows expect was worked out from the documents
 -- or by a dense program of different authorship, never by the definitions themselves.
 pub mod Show
 pub mod Lists

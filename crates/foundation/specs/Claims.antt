@@ -363,7 +363,7 @@ PivotsReach =
 unfoldable pub ListedStops : Type 0
 ListedStops =
     (p : Pattern) (rows : List ℕ) (extent : Extent) (order : orderFits p (listed rows) extent ≡ true) (values : Square Float) (right : ℕ → Float)
-    → (k : ℕ) (steps : (1 ≤ k) × (k ≤ stepsOf extent (p .n))) (before : Going)
+    → (k : ℕ) (before : Going) (range : (1 ≤ k) × (k ≤ stepsOf extent (p .n)))
     → reference (listed rows) (cut (k - 1)) p values right ≡ going before
     → (reference (listed rows) extent p values right ≡ stopped noPivot k)
     ↔ (le leastPivot (magnitude ((before .square) (getD rows (k - 1) 0) k)) ≡ false)

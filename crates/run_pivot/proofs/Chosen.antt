@@ -5,20 +5,18 @@ use mathlib.Core.Logic.{inl, inr}
 use mathlib.Core.Path.{_≡_, refl, sym, ap, _∙_}
 use Prim.Native.Nat.{ℕ, zero, suc, _-_, _≤_, _<_}
 use native.Mathlib.Omega.{arith}
-use lib.Dec.{eqb}
 use lib.Ieee.{Float, nan}
 use lib.ListN.{length, getD, length-map}
-use borrow.Author.Tests.{eqb-true}
 use Rattle.lists.specs.Functions.{all}
 use Rattle.lists.specs.Sets.{member, Ascending}
-use Rattle.lists.proofs.Members.{and-left, and-right}
 use Rattle.lists.proofs.Order.{ascending-weaken}
 use Rattle.lists.proofs.Places.{getD-mapped}
+use Rattle.lists.proofs.Small.{less-one}
 use Rattle.foundation.specs.Numbers.{finite, mayPivot}
 use Rattle.foundation.specs.Pattern.{Pattern}
 use Rattle.foundation.specs.Reference.{Choice, largest, listed, pivotRow}
-use Rattle.foundation.specs.RunCall.{rowsInRange, choiceFits}
-use Rattle.foundation.proofs.FloatSteps.{plus-zero-faint, rows-at}
+use Rattle.foundation.specs.RunCall.{choiceFits}
+use Rattle.foundation.proofs.FloatSteps.{plus-zero-faint, listed-in-range}
 use Rattle.run_slots.specs.Handing.{asked}
 use Rattle.store_search.specs.Places.{FirstFrom}
 use Rattle.store_search.proofs.Places.{found-none}
@@ -56,19 +54,15 @@ module _ (k asks : ℕ) (own : Float) (slots : List Float) (subs : List ℕ) whe
 -- the row of a list that fits
 fits-at : (p : Pattern) (rows : List ℕ) (k : ℕ) → choiceFits p (listed rows) ≡ true → 1 ≤ k → k ≤ p .n
     → (k ≤ getD rows (k - 1) 0) × (getD rows (k - 1) 0 ≤ p .height)
-unfolding choiceFits
-fits-at p rows k h low high =
-    let a = eqb (length rows) (p .n) in let b = rowsInRange (p .height) 1 rows in
-    let size = eqb-true (length rows) (p .n) (and-left a b h) in
-    let r = rows-at (p .height) 1 rows (k - 1) (and-right a b h) (omega arith) in
-    (omega arith, r .1)
+fits-at p rows zero h low high = absurd (omega arith)
+fits-at p rows (suc t) h low high = rw (less-one t) (listed-in-range p rows h t high)
 
 -- the reference takes row p_k where its entry may serve
 listed-pivot : (rows : List ℕ) (n k : ℕ) (entry : ℕ → Float) → 1 ≤ k
     → pivotRow (listed rows) n k entry ≡ cond (mayPivot (entry (getD rows (k - 1) 0))) (getD rows (k - 1) 0) 0
 unfolding pivotRow
 listed-pivot rows n zero entry l = absurd (omega arith)
-listed-pivot rows n (suc before) entry l = let q : suc before - 1 ≡ before = omega arith in rw q
+listed-pivot rows n (suc before) entry l = rw (less-one before)
 
 module _ (k row : ℕ) (own : Float) (slots : List Float) (subs : List ℕ) (w : PivotAsks k row own slots subs) where
   pub slots-size : length slots ≡ length subs

@@ -7,13 +7,13 @@ use native.Mathlib.Nat.{zero-mul, one-mul, mul-one, mul-comm, mul-assoc, mul-le-
 use native.Mathlib.Omega.{arith}
 use lib.Dec.{eqb, ltb, leb}
 use lib.Ieee.{Float, nan, inf, fin, binary64, up, down, lt, le, eq, fits}
+use lib.Ieee.Fits.{down-pos}
 use lib.IntN.{ℤ, pos, negsuc}
 use lib.Pow.{pow-lt, pow-add}
 use borrow.Author.Tests.{ne-eqb, lt-ltb, le-ltb, leb-true}
 use Rattle.lists.proofs.Members.{by-test, and-left, and-right, fails}
 use Rattle.foundation.specs.Numbers.{isZero, finite, magnitude, leastPivot, mayPivot}
-use Rattle.foundation.proofs.LargestRow.{may-pivot}
-use Rattle.run_slots.proofs.Floats.{down-positive}
+use Rattle.foundation.proofs.Magnitudes.{may-pivot}
 use Rattle.run_pivot.specs.Pivot.{absolute}
 use Rattle.run_pivot.proofs.Magnitudes.{scaled-zero, zero-form, absolute-nonzero, absolute-zero, Positive, number, zero-never}
 
@@ -28,7 +28,7 @@ zero-short : (s : Bool) (e : ℤ) → le leastPivot (fin s zero e) ≡ false
 unfolding le eq leastPivot
 zero-short s e =
     rw (zero-never limit-positive s e)
-    (rw (ne-eqb (1 * 1 * down e) (0 * up e * down (negsuc 1021)) (apart (down e) (0 * up e * down (negsuc 1021)) (down-positive e) (scaled-zero e (negsuc 1021)))))
+    (rw (ne-eqb (1 * 1 * down e) (0 * up e * down (negsuc 1021)) (apart (down e) (0 * up e * down (negsuc 1021)) (down-pos e) (scaled-zero e (negsuc 1021)))))
   where
     apart : (d z : ℕ) → 0 < d → z ≡ 0 → 1 * 1 * d ≡ z → ⊥
     apart d z p e q = omega arith
@@ -109,4 +109,4 @@ above-faint (fin s m e) f held = compared (units m held) ∙ sym (may-pivot (fin
         → ltb (4503599627370495 * 1 * down e) (m * up e * 2 ^ 1074) ≡ not (ltb (m * up e * 2 ^ 1022) (1 * 1 * down e))
     compared (count, whole) =
         rw (one-mul (down e))
-        (above-is-next 4503599627370495 4503599627370496 (2 ^ 1074) (2 ^ 1022) (m * up e) (down e) count refl refl (down-positive e) whole)
+        (above-is-next 4503599627370495 4503599627370496 (2 ^ 1074) (2 ^ 1022) (m * up e) (down e) count refl refl (down-pos e) whole)

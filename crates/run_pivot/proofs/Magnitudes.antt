@@ -6,20 +6,15 @@ use native.Mathlib.Nat.{zero-mul, mul-pos}
 use native.Mathlib.Omega.{arith}
 use lib.Dec.{eqb}
 use lib.Ieee.{Float, nan, inf, fin, up, down, neg, lt, eq}
-use lib.IntN.{ℤ, pos, negsuc}
-use lib.Pow.{pow-pos}
+use lib.Ieee.Fits.{up-pos, down-pos}
+use lib.IntN.{ℤ, pos}
 use borrow.Author.Tests.{ne-eqb, lt-ltb, le-ltb}
 use Rattle.lists.proofs.Members.{by-test}
 use Rattle.foundation.specs.Numbers.{plusZero, isZero, magnitude}
-use Rattle.run_slots.proofs.Floats.{down-positive}
 use Rattle.run_pivot.specs.Pivot.{absolute}
 
-up-positive : (e : ℤ) → 0 < up e
-up-positive (pos k) = pow-pos k
-up-positive (negsuc k) = omega arith
-
 scaled-positive : (m : ℕ) (e d : ℤ) → 0 < suc m * up e * down d
-scaled-positive m e d = mul-pos (mul-pos (omega arith) (up-positive e)) (down-positive d)
+scaled-positive m e d = mul-pos (mul-pos (omega arith) (up-pos e)) (down-pos d)
 
 pub scaled-zero : (e d : ℤ) → 0 * up e * down d ≡ 0
 scaled-zero e d = rw (zero-mul, zero-mul)
@@ -59,7 +54,7 @@ absolute-nonzero (fin true (suc m) d) e =
     rw (scaled-zero (pos 0) d, lt-ltb 0 (suc m * up d * down (pos 0) + 0) (omega (arith, scaled-positive m d (pos 0))))
 absolute-nonzero (fin false (suc m) d) e = rw (scaled-zero (pos 0) d, le-ltb (suc m * up d * down (pos 0)) 0 (omega arith))
 
--- a magnitude, or +0
+-- what has no minus sign, as a magnitude
 pub data Positive : Float → Type 0 where
   not-a-number : Positive nan
   infinite : Positive (inf false)

@@ -17,7 +17,7 @@ use Rattle.lists.proofs.Order.{member-low}
 use Rattle.lists.proofs.Places.{member-at, getD-mapped, take-more}
 use Rattle.foundation.specs.Numbers.{finite, magnitude, mayPivot}
 use Rattle.foundation.specs.Reference.{better, best}
-use Rattle.foundation.proofs.LargestRow.{reverse, faint-below}
+use Rattle.foundation.proofs.Magnitudes.{reverse, faint-below}
 use Rattle.run_slots.proofs.Mapped.{all-at}
 use Rattle.run_pivot.specs.Pivot.{absolute, FoundAt, LargestFound}
 use Rattle.run_pivot.proofs.Magnitudes.{Positive, magnitude-positive, above-is}

@@ -1,18 +1,17 @@
 -- Laws of f64: what is not finite shows, and a product's order does not.
-use mathlib.Core.Bool.{Bool, true, false, not, cond, _||_, Bool·beq, and-false}
-use mathlib.Core.Path.{_≡_, refl, sym, ap, _∙_}
-use Prim.Native.Nat.{ℕ, zero, suc, _*_, _<_}
+use mathlib.Core.Bool.{Bool, true, false, not, Bool·beq, and-false}
+use mathlib.Core.Path.{_≡_, refl, sym, ap}
+use Prim.Native.Nat.{ℕ, zero, _*_, _<_}
 use native.Mathlib.Nat.{mul-comm, zero-mul, sub-self, mul-pos}
-use lib.Pow.{pow-pos}
 use native.Mathlib.Omega.{arith}
-use lib.IntN.{pos, negsuc}
+use lib.IntN.{pos}
+use lib.Ieee.Fits.{down-pos}
 use lib.Ieee.Scale.{round-same}
 use borrow.Author.Tests.{le-ltb}
-use lib.Dec.{eqb, ltb}
 use lib.Ieee.{Float, nan, inf, fin, Format, binary64, unlike, up, down, add, neg, sub, mul, sum, round, units, odd, eq, size}
-use Rattle.lists.proofs.Members.{by-test, or-right}
-use Rattle.foundation.specs.Numbers.{isZero, finite, product, difference}
-use Rattle.foundation.specs.Reference.{reduced, soundUpdate}
+use Rattle.lists.proofs.Members.{by-test}
+use Rattle.foundation.specs.Numbers.{finite, product, difference}
+use Rattle.foundation.specs.Reference.{soundUpdate}
 
 unlike-comm : (s t : Bool) → unlike s t ≡ unlike t s
 unlike-comm true true = refl
@@ -56,10 +55,6 @@ pub sound-is : (m u place : Float) → soundUpdate m u place ≡ finite (differe
 unfolding soundUpdate
 sound-is m u place = by-test (finite (product m u)) (λ e. rw e) (λ e. rw (e, difference-finite place (product m u) e))
 
-pub down-positive : (e : lib.IntN.ℤ) → 0 < down e
-down-positive (pos k) = omega arith
-down-positive (negsuc k) = pow-pos (suc k)
-
 round-zero : (f : Format) (s : Bool) (den : ℕ) → 0 < den → round f s 0 den ≡ round f s 0 1
 round-zero f s den h = round-same f s 0 den 0 1 h (omega arith) (sym (zero-mul den))
 
@@ -78,4 +73,4 @@ self-difference nan = refl
 self-difference (inf s) = rw (unlike-self s)
 self-difference (fin s m e) =
     let a = m * up e * down e in
-    rw (unlike-self s, le-ltb a a (omega arith), sub-self a, and-false s, round-zero binary64 false (down e * down e) (mul-pos (down-positive e) (down-positive e))) round-nothing
+    rw (unlike-self s, le-ltb a a (omega arith), sub-self a, and-false s, round-zero binary64 false (down e * down e) (mul-pos (down-pos e) (down-pos e))) round-nothing

@@ -21,7 +21,7 @@ use Rattle.foundation.specs.Shown.{atSide, shownDiagonal}
 use Rattle.foundation.specs.Slots.{hasSlot}
 use Rattle.foundation.specs.Square.{Square, exchanged}
 use Rattle.foundation.specs.Subscripts.{kept}
-use Rattle.foundation.proofs.FloatSteps.{pivot-cases}
+use Rattle.foundation.proofs.FloatSteps.{pivot-found}
 use Rattle.store_place.specs.Places.{ListAsks, ListAt}
 use Rattle.run_slots.specs.Flags.{flagged}
 use Rattle.run_slots.specs.Handing.{StepAsks, StepLeaves}
@@ -43,7 +43,7 @@ serves : (p : Pattern) (choice : Choice) → choiceFits p choice ≡ true → (k
     → (r ≡ 0 → ⊥) → (k ≤ r) × (mayPivot (entry r) ≡ true)
 serves p choice fits zero low high entry r e some = absurd (omega arith)
 serves p choice fits (suc t) low high entry r e some =
-    ⊎-elim (λ z. absurd (some (e ∙ z))) (λ q. rw e (q .0, q .2)) (pivot-cases p choice fits t (omega arith) entry)
+    let (from, to, may) = pivot-found p choice fits t (omega arith) entry r (sym e) (omega (arith, some)) in (from, may)
 
 flag-down : (b : Bool) (flag : ℕ) → flag ≡ flagged 0 b → flag ≡ 0 → b ≡ true
 unfolding flagged
