@@ -1,7 +1,8 @@
-// The header in C++, with stores of the caller's own: the four fields of document 01.
+// The header in C++, with stores of the caller's own: the four fields of document 01, and an offset written and read.
 #include "dalumiveth.h"
 
 #include <cstdio>
+#include <string>
 #include <vector>
 
 namespace {
@@ -48,6 +49,14 @@ dlm_factor factor_stores(Stores &s, const dlm_sizes &sizes)
                       lent(s.reals[5], sizes.x), lent(s.numbers[12], sizes.pivots), 0};
 }
 
+bool offset_returns(double value, const std::string &text)
+{
+    std::string out(DLM_OFFSET_BYTES, 'x');
+    const dlm_offset written = dlm_write_offset(value, &out[0]);
+    const dlm_offset read = dlm_read_offset(out.data(), out.size());
+    return written.refusal == DLM_NONE && out == text && read.refusal == DLM_NONE && read.whole == written.whole && read.value == value;
+}
+
 } // namespace
 
 int main()
@@ -71,6 +80,7 @@ int main()
         good = good && factor.x.at[i] == 1;
     uint32_t tally = 0;
     good = good && dlm_tally_add(&tally, factor.updates).refusal == DLM_NONE && tally == 3;
-    std::printf("%s\n", good ? "the four fields from C++: right" : "the four fields from C++: wrong");
+    good = good && offset_returns(-45296789, "-012 34 56.789") && dlm_read_offset("+360 00 00.000", DLM_OFFSET_BYTES).refusal == DLM_OFFSET_TEXT;
+    std::printf("%s\n", good ? "the four fields and an offset from C++: right" : "the four fields and an offset from C++: wrong");
     return good ? 0 : 1;
 }

@@ -21,6 +21,9 @@ program from_fortran
   call test_least_pivot()
   call test_tally()
   call test_job()
+  call test_written_offsets()
+  call test_refused_offsets()
+  call test_offset_stores()
   print '(i0, a, i0, a)', tried, " tried, ", wrong, " wrong"
   if (wrong /= 0) stop 1
 
@@ -162,5 +165,103 @@ contains
     call expect(text == "refused 16 0" // new_line("a"), "the byte N alone is 16")
     number = dalumiveth_job([78_c_int8_t], 1_dlm_size, out, 8191_dlm_size, answer, 3_dlm_size)
     call expect(number == 6 .and. all(answer == [6, 0, 0]) .and. all(out(1:8191) == 0), "a shorter text store is 6")
+  end subroutine
+
+  ! Document 02, ticket 11: the nearest whole number, the even one at a half; zero has plus.
+  subroutine test_written_offsets()
+    real(dlm_real), parameter :: largest = real(dlm_most_offset, dlm_real)
+    call expect_written(0.0_dlm_real, "+000 00 00.000", 0)
+    call expect_written(-0.0_dlm_real, "+000 00 00.000", 0)
+    call expect_written(tiny(1.0_dlm_real) / 2, "+000 00 00.000", 0)
+    call expect_written(-0.4_dlm_real, "+000 00 00.000", 0)
+    call expect_written(-0.5_dlm_real, "+000 00 00.000", 0)
+    call expect_written(0.5_dlm_real, "+000 00 00.000", 0)
+    call expect_written(nearest(0.5_dlm_real, 1.0), "+000 00 00.001", 1)
+    call expect_written(1.5_dlm_real, "+000 00 00.002", 2)
+    call expect_written(-1.5_dlm_real, "-000 00 00.002", -2)
+    call expect_written(2.5_dlm_real, "+000 00 00.002", 2)
+    call expect_written(45296789.25_dlm_real, "+012 34 56.789", 45296789)
+    call expect_written(-45296789.0_dlm_real, "-012 34 56.789", -45296789)
+    call expect_written(largest, "+359 59 59.999", int(dlm_most_offset))
+    call expect_written(nearest(largest + 0.5_dlm_real, -1.0), "+359 59 59.999", int(dlm_most_offset))
+    call expect_written(-nearest(largest + 0.5_dlm_real, -1.0), "-359 59 59.999", -int(dlm_most_offset))
+  end subroutine
+
+  subroutine expect_written(value, text, whole)
+    real(dlm_real), intent(in) :: value
+    character(*), intent(in) :: text
+    integer, intent(in) :: whole
+    character(len=dlm_offset_bytes) :: out
+    type(dlm_offset) :: offset
+    offset = dlm_write_offset(value, out)
+    call expect(offset%refusal == 0 .and. offset%whole == whole .and. offset%value == whole, text // ": the number written")
+    call expect(out == text, text // " is written")
+    offset = dlm_read_offset(text)
+    call expect(offset%refusal == 0 .and. offset%whole == whole .and. offset%value == whole, text // " is read")
+    call expect(sign(1.0_dlm_real, offset%value) == merge(-1, 1, whole < 0), text // " has no -0")
+  end subroutine
+
+  subroutine test_refused_offsets()
+    real(dlm_real), parameter :: tie = dlm_most_offset + 0.5_dlm_real    ! to the even number, which is too large
+    character(len=20) :: longer
+    type(dlm_offset) :: offset
+    call expect_beyond(tie)
+    call expect_beyond(-tie)
+    call expect_beyond(2.0_dlm_real**52)
+    call expect_beyond(huge(tie))
+    call expect_beyond(transfer(9218868437227405312_dlm_size, tie))      ! infinity
+    call expect_beyond(transfer(9221120237041090560_dlm_size, tie))      ! NaN
+    call expect_other_text("-000 00 00.000")
+    call expect_other_text("+360 00 00.000")
+    call expect_other_text("+012 60 56.789")
+    call expect_other_text("+012 34 60.000")
+    call expect_other_text("+012 34 56,789")
+    call expect_other_text("+012" // achar(9) // "34 56.789")
+    call expect_other_text("+012 34 56.78")
+    call expect_other_text("+012 34 56.7890")
+    call expect_other_text("+012 34 5x.789")
+    call expect_other_text("")
+    longer = "+012 34 56.789"
+    call expect_other_text(longer)
+    offset = dlm_read_offset(trim(longer))
+    call expect(offset%whole == 45296789, "a longer variable, trimmed")
+    call expect(dlm_sentence(28_dlm_size) /= dlm_sentence(27_dlm_size), "28 has a sentence")
+    call expect(dlm_sentence(29_dlm_size) /= dlm_sentence(30_dlm_size), "29 has a sentence")
+  end subroutine
+
+  subroutine expect_beyond(value)
+    real(dlm_real), intent(in) :: value
+    character(len=dlm_offset_bytes) :: out
+    type(dlm_offset) :: offset
+    offset = dlm_write_offset(value, out)
+    call expect(offset%refusal == 29 .and. offset%whole == 0 .and. offset%value == 0, "beyond the largest is 29")
+    call expect(out == repeat(achar(0), dlm_offset_bytes), "and leaves zeros")
+  end subroutine
+
+  subroutine expect_other_text(text)
+    character(*), intent(in) :: text
+    type(dlm_offset) :: offset
+    offset = dlm_read_offset(text)
+    call expect(offset%refusal == 28 .and. offset%whole == 0 .and. offset%value == 0, "'" // text // "' is 28")
+  end subroutine
+
+  ! The exported functions: a result store of another length is 6, before 28 and before 29; `answer` may have any length.
+  subroutine test_offset_stores()
+    character(len=15) :: out
+    integer(dlm_size) :: number, answer(6)
+    real(dlm_real) :: reals(2)
+    reals = 7
+    number = dalumiveth_read_offset("+360 00 00.000", 14_dlm_size, reals, 2_dlm_size, answer, 4_dlm_size)
+    call expect(number == 6 .and. all(answer(1:4) == [6, 0, 0, 0]) .and. all(reals == 0), "a value of two places is 6 before 28")
+    out = repeat("x", 15)
+    number = dalumiveth_write_offset(huge(reals(1)), out, 15_dlm_size, answer, 4_dlm_size)
+    call expect(number == 6 .and. all(answer(1:4) == [6, 0, 0, 0]), "15 places for the text are 6 before 29")
+    call expect(out == repeat(achar(0), 15), "and zeros")
+    answer = 7
+    number = dalumiveth_read_offset("-000 00 00.002", 14_dlm_size, reals, 1_dlm_size, answer, 6_dlm_size)
+    call expect(number == 0 .and. all(answer == [0, 0, 1, 2, 0, 0]) .and. reals(1) == -2, "a longer answer")
+    answer = 7
+    number = dalumiveth_write_offset(-2.0_dlm_real, out, 14_dlm_size, answer, 3_dlm_size)
+    call expect(number == 0 .and. all(answer == [0, 0, 1, 7, 7, 7]) .and. out(1:14) == "-000 00 00.002", "a shorter answer")
   end subroutine
 end program

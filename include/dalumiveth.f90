@@ -15,13 +15,17 @@
 !   answer = dlm_make_plan(pattern, plan, work)
 !   answer = dlm_run_largest(pattern, plan, values, right, factor, work)                  the solution is factor%x
 module dalumiveth
-  use, intrinsic :: iso_c_binding, only: c_size_t, c_double, c_int32_t, c_int8_t
+  use, intrinsic :: iso_c_binding, only: c_size_t, c_double, c_int32_t, c_int8_t, c_char
   implicit none
   private
-  public :: dlm_make_plan, dlm_verify_plan, dlm_run_largest, dlm_run_listed, dlm_tally_add, dlm_sentence
+  public :: dlm_make_plan, dlm_verify_plan, dlm_run_largest, dlm_run_listed, dlm_tally_add, dlm_read_offset, dlm_write_offset
+  public :: dlm_sentence
   public :: dalumiveth_plan, dalumiveth_verify, dalumiveth_run, dalumiveth_tally_add, dalumiveth_job
+  public :: dalumiveth_read_offset, dalumiveth_write_offset
 
   integer, parameter, public :: dlm_size = c_size_t, dlm_real = c_double
+  integer, parameter, public :: dlm_offset_bytes = 14                             ! of an offset's text
+  integer(dlm_size), parameter, public :: dlm_most_offset = 1295999999_dlm_size   ! milliarcseconds: +359 59 59.999
   integer(dlm_size), parameter :: most_rows = 1024
 
   ! Where entries may stand, row after row.
@@ -56,6 +60,13 @@ module dalumiveth
   type, public :: dlm_answer
     integer(dlm_size) :: refusal = 0                   ! 0: none
     integer(dlm_size) :: step = 0                      ! with 7, 8, 13 and 14
+  end type
+
+  ! An offset, read or written: whole milliarcseconds.
+  type, public :: dlm_offset
+    integer(dlm_size) :: refusal = 0                   ! 0: none
+    integer(dlm_size) :: whole = 0                     ! -dlm_most_offset to dlm_most_offset; 0 after a refusal
+    real(dlm_real) :: value = 0                        ! the real equal to `whole`; never -0
   end type
 
   ! The exported functions. Each store is followed by its length; `answer` receives number, step and values.
@@ -132,6 +143,27 @@ module dalumiveth
       integer(c_size_t), value :: job_length, out_length, answer_length
       integer(c_int8_t), intent(in) :: job(*)
       integer(c_int8_t), intent(inout) :: out(*)
+      integer(c_size_t), intent(inout) :: answer(*)
+      integer(c_size_t) :: number
+    end function
+
+    ! `value` has one place, else 6; any other text than an offset's 14 bytes is 28. In `answer`: number, step 0, 1 where the whole
+    ! number is below zero (else 0), its size.
+    function dalumiveth_read_offset(text, text_length, value, value_length, answer, answer_length) result(number) bind(c)
+      import :: c_size_t, c_double, c_char
+      integer(c_size_t), value :: text_length, value_length, answer_length
+      character(kind=c_char), intent(in) :: text(*)
+      real(c_double), intent(inout) :: value(*)
+      integer(c_size_t), intent(inout) :: answer(*)
+      integer(c_size_t) :: number
+    end function
+
+    ! `out` has 14 places, else 6; a value that is not finite or rounds beyond the largest is 29. In `answer`: as for reading.
+    function dalumiveth_write_offset(value, out, out_length, answer, answer_length) result(number) bind(c)
+      import :: c_size_t, c_double, c_char
+      real(c_double), value :: value
+      integer(c_size_t), value :: out_length, answer_length
+      character(kind=c_char), intent(inout) :: out(*)
       integer(c_size_t), intent(inout) :: answer(*)
       integer(c_size_t) :: number
     end function
@@ -253,6 +285,35 @@ contains
     tally = numbers(3)
   end function
 
+  ! Reads an offset such as +012 34 56.789. Every character counts, blanks behind it too: a longer variable is passed as trim(text).
+  ! Any other text is 28, minus zero too.
+  function dlm_read_offset(text) result(offset)
+    character(len=*), intent(in) :: text
+    type(dlm_offset) :: offset
+    integer(dlm_size) :: numbers(4), number
+    real(dlm_real) :: value(1)
+    number = dalumiveth_read_offset(text, len(text, kind=dlm_size), value, 1_dlm_size, numbers, 4_dlm_size)
+    offset = dlm_offset(number, signed(numbers), value(1))
+  end function
+
+  ! Writes the nearest whole number of milliarcseconds, the even one at a half, and answers it. A value that is not finite or rounds
+  ! beyond the largest is 29, and the text is achar(0) throughout.
+  function dlm_write_offset(value, text) result(offset)
+    real(dlm_real), intent(in) :: value
+    character(len=dlm_offset_bytes), intent(out) :: text
+    type(dlm_offset) :: offset
+    integer(dlm_size) :: numbers(4), number
+    number = dalumiveth_write_offset(value, text, len(text, kind=dlm_size), numbers, 4_dlm_size)
+    offset = dlm_offset(number, signed(numbers), real(signed(numbers), dlm_real))
+  end function
+
+  ! The whole number that an answer of reading or writing holds.
+  pure function signed(numbers) result(whole)
+    integer(dlm_size), intent(in) :: numbers(4)
+    integer(dlm_size) :: whole
+    whole = merge(-numbers(4), numbers(4), numbers(3) /= 0)
+  end function
+
   ! The sentence of a refusal's number, without a full stop.
   function dlm_sentence(number) result(sentence)
     integer(dlm_size), intent(in) :: number
@@ -264,7 +325,8 @@ contains
     case (3); sentence = "a column is outside 1 to n"
     case (4); sentence = "the columns of a row do not ascend strictly"
     case (5); sentence = "a row lacks its diagonal"
-    case (6); sentence = "a starts store of the plan, a work store, or the store for a job's text has a wrong length"
+    case (6); sentence = "a starts store of the plan, a work store, or the store for a job's text or for an offset has a &
+        &wrong length"
     case (7); sentence = "an L subscript does not fit into its store"
     case (8); sentence = "a U subscript does not fit into its store"
     case (9); sentence = "the lent plan is not this pattern's: some count, start or used subscript differs"
@@ -279,6 +341,8 @@ contains
     case (17); sentence = "job: bytes follow Z"
     case (18); sentence = "job: it is over 16,384 bytes"
     case (19); sentence = "the tally's sum would pass 4,294,967,295; it keeps its old sum"
+    case (28); sentence = "the text is not an offset such as +012 34 56.789 (14 bytes, below 360 degrees), or it is minus zero"
+    case (29); sentence = "the number of milliarcseconds is not finite or rounds beyond the largest, 1,295,999,999"
     case default; sentence = "no refusal has this number"
     end select
   end function

@@ -10,7 +10,7 @@
  *              gets an answer, a result or a refusal with its number. Inputs are never changed. In the functions dlm_* a NULL pointer
  *              is a store without places, whatever its length says.
  *   Refusals   After a refusal every result store is zero throughout. Work stores are zero after every call. A result store that is
- *              longer than needed has zeros behind the result.
+ *              longer than needed has zeros behind the result; where one length is given (a job's text, an offset), another is 6.
  *   Proved     The functions dalumiveth_*, which the library exports, are proved for all inputs: each number of the answer and each store
  *              afterwards, bit for bit; that planned slots suffice for every choice of rows; that every call ends. Their contracts
  *              speak of stores that are valid and do not overlap: no proof sees what a program in C lends.
@@ -49,19 +49,21 @@ typedef char dlm_size_t_has_64_bits[sizeof(size_t) == 8 ? 1 : -1];
 #define DLM_MOST_ENTRIES ((size_t)16384)  /* the largest number of entries */
 #define DLM_MOST_JOB ((size_t)16384)      /* bytes of the longest job */
 #define DLM_MOST_PRINTED ((size_t)8192)   /* bytes that hold the answer to any job */
+#define DLM_OFFSET_BYTES ((size_t)14)     /* bytes of an offset's text */
+#define DLM_MOST_OFFSET INT64_C(1295999999)  /* the largest offset in milliarcseconds: +359 59 59.999 */
 
 /* ------------------------------------------------------------------ refusals */
 
-/* What an answer may say. Where no step is named, the answer's step is 0. */
+/* What an answer may say, and no other number. Where no step is named, the answer's step is 0. */
 typedef enum dlm_refusal {
-    DLM_NONE = 0,           /* no refusal: planned, agreed, finished, added */
+    DLM_NONE = 0,           /* no refusal: planned, agreed, finished, added, read, written */
     DLM_LIMITS = 1,         /* n is 0 or above 1,024, or there are more than 16,384 entries */
     DLM_STARTS = 2,         /* the row starts are not n+1, do not begin with 0, fall, or do not end with the number of entries */
     DLM_COLUMN = 3,         /* a column is outside 1 to n */
     DLM_ORDER = 4,          /* the columns of a row do not ascend strictly */
     DLM_DIAGONAL = 5,       /* a row lacks its diagonal */
-    DLM_STORES = 6,         /* a starts store of the plan, a work store, or the store for a job's text has another length than the one given
-                               with it below */
+    DLM_STORES = 6,         /* a starts store of the plan, a work store, or the store for a job's text or for an offset has another length
+                               than the one given with it below */
     DLM_LOWER_ROOM = 7,     /* an L subscript does not fit; the step */
     DLM_UPPER_ROOM = 8,     /* a U subscript does not fit; the step */
     DLM_OTHER_PLAN = 9,     /* the lent plan differs from the pattern's in some count, start or used subscript */
@@ -74,35 +76,39 @@ typedef enum dlm_refusal {
     DLM_JOB_ENDS = 16,      /* job: the bytes end inside or before a command */
     DLM_JOB_GOES_ON = 17,   /* job: bytes follow Z */
     DLM_JOB_TOO_LONG = 18,  /* job: it is over 16,384 bytes */
-    DLM_TALLY_FULL = 19     /* the tally's sum would pass 4,294,967,295; the tally keeps its old sum */
+    DLM_TALLY_FULL = 19,    /* the tally's sum would pass 4,294,967,295; the tally keeps its old sum */
+    DLM_OFFSET_TEXT = 28,   /* the text is not an offset such as +012 34 56.789 (14 bytes, below 360 degrees), or it is minus zero */
+    DLM_OFFSET_BEYOND = 29  /* the number of milliarcseconds is not finite or rounds beyond the largest, 1,295,999,999 */
 } dlm_refusal;
 
 /* The sentence of a refusal's number, without a full stop. */
 static inline const char *dlm_sentence(size_t number)
 {
-    static const char *const sentences[] = {
-        "no refusal",
-        "n is 0 or above 1,024, or there are more than 16,384 entries",
-        "the row starts are not n+1, do not begin with 0, fall, or do not end with the number of entries",
-        "a column is outside 1 to n",
-        "the columns of a row do not ascend strictly",
-        "a row lacks its diagonal",
-        "a starts store of the plan, a work store, or the store for a job's text has a wrong length",
-        "an L subscript does not fit into its store",
-        "a U subscript does not fit into its store",
-        "the lent plan is not this pattern's: some count, start or used subscript differs",
-        "values are not as many as entries, right side, x, pivots or d not n, or slots fewer than planned",
-        "a value or right side is not finite",
-        "the row list is not n long, its row k is below k or above n, or the run is cut to more than n steps",
-        "no row from the step on, or not the listed row, has an entry of magnitude at least 2^-1022 in the step's column",
-        "a quotient, product or difference is not finite",
-        "job: a command byte is unknown or stands where it may not, or R names another row than the next",
-        "job: the bytes end inside or before a command",
-        "job: bytes follow Z",
-        "job: it is over 16,384 bytes",
-        "the tally's sum would pass 4,294,967,295; it keeps its old sum",
-    };
-    return number < sizeof sentences / sizeof sentences[0] ? sentences[number] : "no refusal has this number";
+    switch (number) {
+    case 0: return "no refusal";
+    case 1: return "n is 0 or above 1,024, or there are more than 16,384 entries";
+    case 2: return "the row starts are not n+1, do not begin with 0, fall, or do not end with the number of entries";
+    case 3: return "a column is outside 1 to n";
+    case 4: return "the columns of a row do not ascend strictly";
+    case 5: return "a row lacks its diagonal";
+    case 6: return "a starts store of the plan, a work store, or the store for a job's text or for an offset has a wrong length";
+    case 7: return "an L subscript does not fit into its store";
+    case 8: return "a U subscript does not fit into its store";
+    case 9: return "the lent plan is not this pattern's: some count, start or used subscript differs";
+    case 10: return "values are not as many as entries, right side, x, pivots or d not n, or slots fewer than planned";
+    case 11: return "a value or right side is not finite";
+    case 12: return "the row list is not n long, its row k is below k or above n, or the run is cut to more than n steps";
+    case 13: return "no row from the step on, or not the listed row, has an entry of magnitude at least 2^-1022 in the step's column";
+    case 14: return "a quotient, product or difference is not finite";
+    case 15: return "job: a command byte is unknown or stands where it may not, or R names another row than the next";
+    case 16: return "job: the bytes end inside or before a command";
+    case 17: return "job: bytes follow Z";
+    case 18: return "job: it is over 16,384 bytes";
+    case 19: return "the tally's sum would pass 4,294,967,295; it keeps its old sum";
+    case 28: return "the text is not an offset such as +012 34 56.789 (14 bytes, below 360 degrees), or it is minus zero";
+    case 29: return "the number of milliarcseconds is not finite or rounds beyond the largest, 1,295,999,999";
+    default: return "no refusal has this number";
+    }
 }
 
 /* The answer of a call. */
@@ -192,6 +198,13 @@ typedef struct dlm_extent {
     size_t steps;  /* 0 to n; not read in a whole run */
 } dlm_extent;
 
+/* An offset, read or written: whole milliarcseconds. */
+typedef struct dlm_offset {
+    dlm_refusal refusal;
+    int64_t whole;  /* -1,295,999,999 to 1,295,999,999; 0 after a refusal */
+    double value;   /* the double equal to `whole`; never -0 */
+} dlm_offset;
+
 /* How long each store of the structs above must be, under the same names. */
 typedef struct dlm_sizes {
     size_t starts, columns;                                                    /* pattern */
@@ -248,6 +261,19 @@ size_t dalumiveth_tally_add(uint32_t sum, size_t updates, size_t *answer, size_t
    6), step 0, and how many bytes are printed. An `out` of another length is 6 and all zeros. What is wrong with the job is printed, and is
    no refusal of the call. */
 size_t dalumiveth_job(const uint8_t *job, size_t job_length, uint8_t *out, size_t out_length, size_t *answer, size_t answer_length);
+
+/* An offset in degrees, minutes and seconds is 14 bytes such as +012 34 56.789, with no zero byte behind them: sign, three digits of degrees
+   (000 to 359), space, two of minutes, space, two of seconds (both 00 to 59), point, three of thousandths. Zero has plus.
+
+   value: one place: the double equal to the whole milliarcseconds, +0 after a refusal. answer: number (0, 6 or 28), step 0, 1 where the
+   whole number is below zero (else 0), and its size. A `value` of another length is 6, whatever the text is; any other text is 28. */
+size_t dalumiveth_read_offset(const uint8_t *text, size_t text_length, double *value, size_t value_length, size_t *answer,
+                              size_t answer_length);
+
+/* value: milliarcseconds; the nearest whole number is written, the even one at a half. out: 14 places (DLM_OFFSET_BYTES): the text, zeros after
+   a refusal. answer: number (0, 6 or 29), step 0, 1 where the written number is below zero (else 0), and its size. An `out` of another length
+   is 6, whatever the value is; a value that is not finite or rounds beyond 1,295,999,999 is 29. */
+size_t dalumiveth_write_offset(double value, uint8_t *out, size_t out_length, size_t *answer, size_t answer_length);
 
 /* ------------------------------------------------------------------ lending */
 
@@ -503,6 +529,40 @@ static inline size_t dlm_answer_job(const uint8_t *job, size_t job_length, uint8
     dalumiveth_job(job != NULL ? job : &nothing, job != NULL ? job_length : 0, out != NULL ? out : &nowhere,
                    out != NULL ? DLM_MOST_PRINTED : 0, answer, 3);
     return answer[2];
+}
+
+/* The offset that an answer in four numbers holds. */
+static inline dlm_offset dlm_offset_in(const size_t numbers[4])
+{
+    dlm_offset offset;
+    offset.refusal = (dlm_refusal)numbers[0];
+    offset.whole = numbers[2] != 0 ? -(int64_t)numbers[3] : (int64_t)numbers[3];
+    offset.value = (double)offset.whole; /* exact: it has 31 bits */
+    return offset;
+}
+
+/* Reads an offset such as +012 34 56.789: 14 bytes, a terminating zero is none of them. Any other text is 28, minus zero too. */
+static inline dlm_offset dlm_read_offset(const char *text, size_t length)
+{
+    static const char nothing = 0;
+    size_t answer[4] = {0};
+    double value = 0;
+    dlm_offset offset;
+    dalumiveth_read_offset((const uint8_t *)(text != NULL ? text : &nothing), text != NULL ? length : 0, &value, 1, answer, 4);
+    offset = dlm_offset_in(answer);
+    offset.value = value;
+    return offset;
+}
+
+/* Writes the nearest whole number of milliarcseconds, the even one at a half, and answers it. `text` has 14 places (DLM_OFFSET_BYTES) and gets
+   no terminating zero: printf takes it by "%.14s". A value that is not finite or rounds beyond the largest is 29, and the text is zeros; a
+   NULL is a store without places (6). */
+static inline dlm_offset dlm_write_offset(double value, char *text)
+{
+    uint8_t nowhere = 0;
+    size_t answer[4] = {0};
+    dalumiveth_write_offset(value, text != NULL ? (uint8_t *)text : &nowhere, text != NULL ? DLM_OFFSET_BYTES : 0, answer, 4);
+    return dlm_offset_in(answer);
 }
 
 /* ------------------------------------------------------------------ the square's places */

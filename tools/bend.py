@@ -47,7 +47,8 @@ STAGES = ("own", "table", "proof")
 # the tables of a file's own part, where they are not those of its name
 OWN = {"Functions": ["Lists"], "Sets": ["Lists"], "Table": ["Lists"], "Numbers": ["Numbers", "Faint"], "Answer": ["Numbers"], "Square": ["Numbers"], "Text": ["Numbers"],
        "Subscripts": ["Plan"], "Slots": ["Plan"], "PlanCall": ["PlanCall", "LentPlan"],
-       "Reference": ["Reference", "Stopping", "Back", "StepParts", "Faint"], "Facts": [], "Closed": [], "Claims": [], "Marked": []}
+       "Reference": ["Reference", "Stopping", "Back", "StepParts", "Faint"], "Facts": [], "Closed": [], "Claims": [], "Marked": [],
+       "OffsetReading": ["Offset"], "OffsetRounding": ["Offset"], "OffsetCall": ["Offset"]}
 
 
 class Change:

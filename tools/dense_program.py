@@ -1,8 +1,8 @@
 """The dense program of different authorship that document 01 asks for ("other cases are executed and compared"), as the tools that write the cases ask it.
 
-It is a folder with now.py, which knows whole calls by documents 01 and 02, and what now.py imports. LANDED says which requests of document 02 have landed;
-`Dense(FOLDER, share_end=False)` answers as if ticket 5 had not, `Dense(FOLDER, faint=False)` as if ticket 14 had not, so that the cases can show where a
-request's rule makes a difference.
+It is a folder with now.py, which knows whole calls by documents 01 and 02, tickets.py, which reads and writes offsets (document 02, ticket 11), and what these
+import. LANDED says which requests of document 02 have landed; `Dense(FOLDER, share_end=False)` answers as if ticket 5 had not, `Dense(FOLDER, faint=False)` as if
+ticket 14 had not, so that the cases can show where a request's rule makes a difference.
 """
 import collections
 import os
@@ -11,6 +11,7 @@ import sys
 # the rules of tickets 5, 14 and 9, by now.py's names
 LANDED = {"share_end": True, "faint": True, "tall": False}
 Called = collections.namedtuple("Called", "answer stores")
+OFFSET_BYTES = 14
 
 
 class Dense:
@@ -20,7 +21,8 @@ class Dense:
         if os.path.abspath(folder) not in sys.path:
             sys.path.insert(0, os.path.abspath(folder))
         import now
-        self.now, self.rules = now, now.Rules(**{**LANDED, **other_rules})
+        import tickets
+        self.now, self.tickets, self.rules = now, tickets, now.Rules(**{**LANDED, **other_rules})
 
     # ---- plans of patterns that pass 1 to 5, given by their rows
 
@@ -59,6 +61,19 @@ class Dense:
 
     def report(self, job):
         return self.now.report(job, self.rules)
+
+    # ---- offsets
+
+    def read_offset(self, text):
+        return self.tickets.read_sexagesimal(text)
+
+    def write_offset(self, value, length):
+        """The whole number that is written, and the store of this length: zeros after a refusal. It knows no stores:
+        that one of another length is 6, and what is left after a refusal, is said here (docs/DECISIONS.md, 85)."""
+        answer = self.tickets.write_sexagesimal(value) if length == OFFSET_BYTES else ("refused", 6, 0)
+        if answer[0] == "refused":
+            return Called(answer, bytes(length))
+        return Called(self.read_offset(answer[1]), answer[1])
 
 
 def numbered(rows):

@@ -3,9 +3,9 @@
 
 A function with a `requires` that another crate calls has to be `pub`, and whoever lists its crate can call it. So crates.txt is the fence:
 
-1. A crate's name says its part. `plan_..` and `verify_..` are inner crates of planning, `run_..` of elimination, `job_..` of job: each may be listed
-   by the open crate of its part and by inner crates of the same part, and by nobody else; planning's `plan_..` do not list its `verify_..`.
-   `store_..` are inner crates that every part may list, and that list none of the parts'.
+1. A crate's name says its part. `plan_..` and `verify_..` are inner crates of planning, `run_..` of elimination, `job_..` of job, `offset_..` of offsets:
+   each may be listed by the open crate of its part and by inner crates of the same part, and by nobody else; planning's `plan_..` do not list its
+   `verify_..`. `store_..` are inner crates that every part may list, and that list none of the parts'; so may the exported functions, which no crate lists.
 2. An open function of a library for callers (any other crate with a src/lib.rt) has no `requires`, and has an `ensures`. Open are the functions
    marked `pub` in src/lib.rt and in its public modules, and those of private modules that a `pub use` names. An inner crate is not handed on
    by `pub use`. A `pub use` that the fence cannot follow is a breach: one of several names, under another name, or of nothing that it finds.
@@ -18,8 +18,9 @@ import re
 import sys
 
 # The open crate of the part that a name's first word stands for; `store` stands for every part.
-PART_OF = {"plan": "planning", "verify": "planning", "run": "elimination", "job": "job"}
+PART_OF = {"plan": "planning", "verify": "planning", "run": "elimination", "job": "job", "offset": "offsets"}
 SHARED = "store"
+EXPORTED = "dalumiveth"
 KIT = ("std", "io", "libc", "os")
 
 
@@ -53,7 +54,7 @@ def may_list(name, used):
     if word is None:
         return word_of(name) != SHARED or used not in PART_OF.values()
     if word == SHARED:
-        return word_of(name) is not None or name in PART_OF.values()
+        return word_of(name) is not None or name in PART_OF.values() or name == EXPORTED
     return part_of(name) == PART_OF[word] and not (word_of(name) == "plan" and word == "verify")
 
 

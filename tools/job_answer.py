@@ -5,18 +5,19 @@ too, the place in it is named.
 """
 import re
 
+import offset_text
 from job_bytes import MOST_BYTES, MOST_FIELDS, Refused, is_finite, number_of, read, text_of_bits
 
 ROOM = 2048
 
-# What is wrong, for each refusal of document 01, 13 by document 02's ticket 14; {k} is its step.
+# What is wrong, for each refusal of document 01, 13 by document 02's ticket 14, 28 and 29 by its ticket 11; {k} is its step.
 SENTENCES = {
     1: f"The number of fields is 0 or above {MOST_FIELDS} (in a call of the library: above 1,024, or more than 16,384 entries).",
     2: "The row starts of a pattern are not n+1, do not begin with 0, fall, or do not end with the number of entries.",
     3: "A column number is 0 or larger than the number of fields.",
     4: "The columns of a row do not ascend strictly.",
     5: "A row lacks its diagonal place. Where its value is zero it has to be listed all the same.",
-    6: "A starts store of the plan, or a work store, has another length than docs/CALLS.md fixes for it.",
+    6: "A starts store of the plan, a work store, or the store for a job's text or for an offset has another length than docs/CALLS.md fixes for it.",
     7: f"At step {{k}} the subscripts of L need more room than is lent (in the program {ROOM:,}).",
     8: f"At step {{k}} the subscripts of U need more room than is lent (in the program {ROOM:,}).",
     9: "The lent plan is not the plan of this pattern: some count, start or used subscript differs.",
@@ -33,8 +34,10 @@ SENTENCES = {
     17: "Bytes follow the Z.",
     18: f"The job has more than {MOST_BYTES:,} bytes.",
     19: "The tally's sum would pass 4,294,967,295; it keeps its old sum.",
+    28: "The text is not an offset such as +012 34 56.789 (14 bytes, below 360 degrees), or it is minus zero.",
+    29: "The number of milliarcseconds is not finite or rounds beyond the largest, 1,295,999,999.",
 }
-NOT_OF_JOBS = (2, 6, 9, 19)
+NOT_OF_JOBS = (2, 6, 9, 19, 28, 29)
 WITH_STEP = (7, 8, 13, 14)      # the others have step 0
 
 
@@ -73,14 +76,22 @@ def parse(text):
 
 # ---- in words
 
-def finished_text(answer):
+def sexagesimal(bits):
+    """The number as milliarcseconds in degrees, minutes and seconds, or why it is not written so."""
+    try:
+        return offset_text.text_of_value(number_of(bits))
+    except offset_text.NoOffset as error:
+        return f"not written (29: {error})"
+
+
+def finished_text(answer, as_offsets=False):
     n, entries, l_subs, u_subs, l_slots, u_slots, reads = answer.counts
     lines = [f"finished: {n} fields, {entries} entries",
              f"subscripts: L {l_subs}, U {u_subs}; value slots: L {l_slots}, U {u_slots} (room for {ROOM:,} of each)",
              f"reads {reads}, updates {answer.updates}",
              "pivot rows: " + " ".join(map(str, answer.pivots))]
     for i, bits in enumerate(answer.solution, 1):
-        lines.append(f"field {i}: {text_of_bits(bits)}    {number_of(bits).hex()}")
+        lines.append(f"field {i}: {text_of_bits(bits)}    {number_of(bits).hex()}" + (f"    {sexagesimal(bits)}" if as_offsets else ""))
     return "\n".join(lines) + "\n"
 
 
@@ -161,12 +172,12 @@ def first_wrong_pivot(fields):
     return None
 
 
-def explain(text, job=None):
-    """The words, and whether the run finished."""
+def explain(text, job=None, as_offsets=False):
+    """The words, and whether the run finished; the solution in degrees, minutes and seconds too if `as_offsets`."""
     answer = parse(text)
     if isinstance(answer, Finished):
         if job is not None and not fits_job(answer, job):
             raise BadAnswer(OTHER_JOB)
-        return finished_text(answer), True
+        return finished_text(answer, as_offsets), True
     number, step = answer
     return refused_text(number, step, place(number, step, job) if job is not None else None), False

@@ -5,11 +5,17 @@ comment. A row is an equation:
 
     fields 4
     row 1   1:2  3:1   = 3        column:value .. = right side
-    row 2   2:1  4:1   = 2
+    row 2   2:1  4:1   = +012 34 56.789     degrees, minutes and seconds: the whole milliarcseconds
     ..
     pivots 1 2 4 4                optional: the row list
 """
-from job_bytes import Fields, MOST_BYTES, MOST_FIELDS, Row, bits_of_text, is_finite, text_of_bits, write
+import re
+
+import offset_text
+from job_bytes import Fields, MOST_BYTES, MOST_FIELDS, Row, bits_of, bits_of_text, is_finite, text_of_bits, write
+
+# A word; an offset, which has blanks, is one.
+WORD = re.compile(rf"(?<!\S){offset_text.FORM}(?!\S)|\S+")
 
 
 class BadText(Exception):
@@ -28,7 +34,7 @@ class Words:
         self.words = []
         lines = text.splitlines()
         for line, content in enumerate(lines, 1):
-            for word in content.split("#")[0].replace("=", " = ").split():
+            for word in WORD.findall(content.split("#")[0].replace("=", " = ")):
                 self.words.append((line, word))
         self.at, self.last = 0, max(1, len(lines))
 
@@ -55,9 +61,10 @@ class Words:
         line, word = self.line(), self.next(wanted)
         return whole(line, word, wanted)
 
-    def value(self, wanted):
+    def right_side(self, wanted):
+        """A value, or an offset in degrees, minutes and seconds."""
         line, word = self.line(), self.next(wanted)
-        return value(line, word)
+        return offset(line, word) if offset_text.has_form(word) else value(line, word)
 
 
 def whole(line, word, wanted):
@@ -73,6 +80,13 @@ def value(line, word):
         return bits_of_text(word)
     except ValueError as error:
         raise BadText(line, str(error)) from None
+
+
+def offset(line, word):
+    try:
+        return bits_of(float(offset_text.whole_of_text(word)))
+    except offset_text.NoOffset as error:
+        raise BadText(line, f"'{word}' is no offset: {error}") from None
 
 
 def parse(text, unchecked=False):
@@ -115,7 +129,7 @@ def parse_row(words, i, check):
         entries.append((whole(line, column, "a column"), value(line, rest)))
         check.entry(line, i, before, *entries[-1])
     words.named("=")
-    line, right = words.line(), words.value(f"the right side of row {i}")
+    line, right = words.line(), words.right_side(f"the right side of row {i}")
     check.row(line, i, entries, right)
     return Row(entries, right)
 

@@ -5,7 +5,8 @@
   tools/jobs.py make --matrix A.mtx --right B [--pivots 1,2,3] [-o JOB]
                                                       a job from a Matrix Market file and a right side
   tools/jobs.py show JOB [--hex]                      a job as that text again
-  tools/jobs.py explain ANSWER [--job JOB]            the program's answer in words
+  tools/jobs.py explain ANSWER [--job JOB] [--sexagesimal]
+                                                      the program's answer in words
 
 A file named - (and a JOB or ANSWER that is left out) is standard input; without
 -o the job goes to standard output. docs/JOB.md has the text and the job.
@@ -94,7 +95,7 @@ def explain(words):
         text = load(words.answer).decode("ascii")
     except UnicodeDecodeError:
         raise job_answer.BadAnswer("this is not, or not all of, an answer of the program") from None
-    said, finished = job_answer.explain(text, None if words.job is None else load(words.job))
+    said, finished = job_answer.explain(text, None if words.job is None else load(words.job), words.sexagesimal)
     sys.stdout.write(said)
     return 0 if finished else 1
 
@@ -125,6 +126,7 @@ def command_line():
     explained = commands.add_parser("explain", help="the program's answer in words")
     explained.add_argument("answer", nargs="?", default="-")
     explained.add_argument("--job", help="the job that was answered, so that places in it can be named")
+    explained.add_argument("--sexagesimal", action="store_true", help="the offsets, as milliarcseconds, in degrees, minutes and seconds too")
     explained.set_defaults(run=explain)
     return parser
 

@@ -25,6 +25,7 @@ class Listing(unittest.TestCase):
     def test_an_open_crate_lists_its_own_part(self):
         self.assertMay("planning", "plan_call", "verify_call", "store_lists", "answers", "lists")
         self.assertMay("elimination", "run_call", "store_lists", "planning")
+        self.assertMay("offsets", "offset_text", "numbers", "answers", "lists")
         self.assertMay("job", "job_run", "elimination")
         self.assertMayNot("planning", "run_call", "job_run")
         self.assertMayNot("elimination", "plan_call", "verify_call", "job_read")
@@ -42,9 +43,15 @@ class Listing(unittest.TestCase):
         self.assertMay("store_lists", "store_search", "answers", "lists")
         self.assertMayNot("store_lists", "plan_gather", "run_slots", "planning", "elimination", "job")
 
+    def test_the_exported_functions_list_shared_inner_crates(self):
+        self.assertMay("dalumiveth", "store_clear", "offsets", "planning", "job", "numbers", "lists")
+        self.assertMayNot("numbers", "store_clear")
+
     def test_nobody_else_lists_an_inner_crate(self):
         for name in ("dalumiveth", "numbers", "tally", "program", "cases_planning", "answers"):
-            self.assertMayNot(name, "plan_call", "verify_call", "run_call", "job_run", "store_lists")
+            self.assertMayNot(name, "plan_call", "verify_call", "run_call", "job_run", "offset_text")
+        for name in ("numbers", "tally", "program", "cases_planning", "answers"):
+            self.assertMayNot(name, "store_lists")
             self.assertMay(name, "planning", "lists")
 
     def test_names_that_are_no_inner_crate(self):

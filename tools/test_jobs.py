@@ -4,6 +4,7 @@ import contextlib
 import io
 import os
 import random
+import re
 import struct
 import subprocess
 import sys
@@ -104,6 +105,55 @@ class Text(unittest.TestCase):
             self.assertIn(part, str(caught.exception))
 
 
+class OffsetsInText(unittest.TestCase):
+    """Right sides in degrees, minutes and seconds: document 02, ticket 11."""
+
+    def right_sides(self, *texts):
+        text = f"fields {len(texts)}\n" + "".join(f"row {i} {i}:1 = {right}\n" for i, right in enumerate(texts, 1))
+        return [row.right for row in job_text.parse(text).rows]
+
+    def test_right_sides(self):
+        for text, whole in (("+012 34 56.789", 45296789), ("-012 34 56.789", -45296789), ("+000 00 00.000", 0), ("-000 00 00.001", -1),
+                            ("+359 59 59.999", 1295999999), ("-359 59 59.999", -1295999999)):
+            self.assertEqual(self.right_sides(text), [bits_of(float(whole))], text)
+        mixed = self.right_sides("3", "+012 34 56.789", "-2.5e-3", "+012", "-000 00 01.000 # a second")
+        self.assertEqual(mixed, [bits_of(x) for x in (3.0, 45296789.0, -0.0025, 12.0, -1000.0)])
+
+    def test_layout(self):
+        text = "fields 2 row 1 1:1=+012 34 56.789 row 2 2:1 =\n  -000 00 00.002\npivots 1 2"
+        self.assertEqual(job_text.show(job_text.parse(text)), "fields 2\nrow 1   1:1  = 45296789\nrow 2   2:1  = -2\npivots 1 2\n")
+
+    def test_bad_lines(self):
+        for right, part in (("+360 00 00.000", "'+360 00 00.000' is no offset: 360 degrees are more than 359"), ("-012 60 00.000", "60 minutes are more"),
+                            ("+012 34 60.000", "60 seconds are more"), ("-000 00 00.000", "'-000 00 00.000' is no offset: zero is written with plus"),
+                            ("+012 34 56,789", "'34' stands where 'row'"), ("+012\t34 56.789", "'34' stands where 'row'"),
+                            ("+012 34 56.7890", "'34' stands where 'row'"), ("+012  34 56.789", "'34' stands where 'row'"),
+                            ("012 34 56.789", "'34' stands where 'row'"), ("+012\n34 56.789", "'34' stands where 'row'")):
+            line = 3 + right.count("\n")
+            with self.assertRaises(job_text.BadText, msg=right) as caught:
+                job_text.parse(f"fields 2\n# two\nrow 1 1:1 = {right}\nrow 2 2:1 = 1\n")
+            self.assertTrue(str(caught.exception).startswith(f"line {line}: "), (right, str(caught.exception)))
+            self.assertIn(part, str(caught.exception))
+
+    def test_example_of_the_page(self):
+        """The text and the two lines that docs/JOB.md shows."""
+        page = contents(os.path.join(HERE, "..", "docs", "JOB.md")).decode()
+        text = re.search(r"    fields 2\n(?:    row .*\n)+", page)[0]
+        fields = job_text.parse(text)
+        self.assertEqual([row.right for row in fields.rows], [bits_of(1500.0), bits_of(-45296789.0)])
+        answer = "plan 2 3 1 1 1 1 10\nrows 1 2\nx 1 4097700000000000\nx 2 C1859935C8000000\nupdates 0\n"
+        said, _ = job_answer.explain(answer, job_bytes.write(fields), as_offsets=True)
+        self.assertIn("".join(f"    {line}\n" for line in said.splitlines()[4:]), page)
+
+    def test_right_sides_alone(self):
+        """Elsewhere three words stay three words."""
+        for text, part in (("fields 1\nrow 1 1:+012 34 56.789 = 1\n", "'34' stands in row 1"), ("fields 1\nrow 1 +012 34 56.789 = 1\n", "column:value"),
+                           ("fields +012 34 56.789\n", "the number of fields"), ("fields 1 row 1 1:1 = 1 pivots +012 34 56.789\n", "a pivot row")):
+            with self.assertRaisesRegex(job_text.BadText, part):
+                job_text.parse(text)
+        self.assertEqual(matrix_market.right_side("+012 34 56.789"), [bits_of(x) for x in (12.0, 34.0, 56.789)])
+
+
 class Market(unittest.TestCase):
     GENERAL = ("%%MatrixMarket matrix coordinate real general\n% four fields\n4 4 9\n1 1 2\n1 3 1\n2 2 1\n2 4 1\n3 1 4\n3 3 4\n4 2 2\n4 3 1\n4 4 4\n")
 
@@ -165,14 +215,32 @@ class Answers(unittest.TestCase):
             self.assertIn(part, said)
         self.assertIn("field 1: 0.1 ", job_answer.explain("plan 1 1 0 0 0 0 2\nrows 1\nx 1 3FB999999999999A\nupdates 0\n")[0])
 
+    def test_sexagesimal(self):
+        """The same lines, each offset with its text; what cannot be written is told as such."""
+        values = (45296789.0, -0.4, -1.5, 1295999999.5, -1e300, float("nan"))
+        text = "plan 6 6 0 0 0 0 12\nrows 1 2 3 4 5 6\n" + "".join(f"x {i} {bits_of(x):016X}\n" for i, x in enumerate(values, 1)) + "updates 0\n"
+        plain, with_offsets = (job_answer.explain(text, as_offsets=wanted)[0].splitlines() for wanted in (False, True))
+        self.assertEqual(plain[:4], with_offsets[:4])
+        beyond = "not written (29: it rounds beyond the largest, 1,295,999,999)"
+        texts = ("+012 34 56.789", "+000 00 00.000", "-000 00 00.002", beyond, beyond, "not written (29: it is not finite)")
+        self.assertEqual([line + "    " + written for line, written in zip(plain[4:], texts)], with_offsets[4:])
+        self.assertEqual(job_answer.explain("refused 13 1\n", as_offsets=True), job_answer.explain("refused 13 1\n"))
+
+    def test_sentences_of_offsets(self):
+        """The header's words."""
+        header = dict(re.findall('case ([0-9]+): return "(.*)";', contents(os.path.join(HERE, "..", "include", "dalumiveth.h")).decode()))
+        for number in (28, 29):
+            said = header[str(number)]
+            self.assertEqual(job_answer.SENTENCES[number], said[0].upper() + said[1:] + ".")
+
     def test_every_refusal_has_its_sentence(self):
-        self.assertEqual(sorted(job_answer.SENTENCES), list(range(1, 20)))
-        for number in range(1, 20):
+        self.assertEqual(sorted(job_answer.SENTENCES), [*range(1, 20), 28, 29])
+        for number in job_answer.SENTENCES:
             step = 17 if number in (7, 8, 13, 14) else 0
             said, finished = job_answer.explain(f"refused {number} {step}\n")
             self.assertFalse(finished)
             self.assertTrue(said.startswith(f"refused, number {number}" + (", step 17\n" if step else "\n")), said)
-            self.assertEqual(said.count("\n"), 3 if number in (2, 6, 9, 19) else 2)
+            self.assertEqual(said.count("\n"), 3 if number in (2, 6, 9, 19, 28, 29) else 2)
             self.assertEqual("17" in said.splitlines()[1], bool(step))
             self.assertNotIn("{", said)
         self.assertIn("has an entry of magnitude at least 2^-1022 in column 17", job_answer.explain("refused 13 17\n")[0])
@@ -263,6 +331,8 @@ class Commands(unittest.TestCase):
         self.assertIn(b"1:0x1.0000000000000p+1", self.run_words("show", "--hex", example + "job")[1])
         status, said, _ = self.run_words("explain", "--job", example + "job", given=LISTING.encode())
         self.assertEqual((status, said.split(b"\n")[0]), (0, b"finished: 4 fields, 9 entries"))
+        status, with_offsets, _ = self.run_words("explain", "--sexagesimal", given=LISTING.encode())
+        self.assertEqual((status, with_offsets), (0, said.replace(b"p+0\n", b"p+0    +000 00 00.001\n")))
 
     def test_files(self):
         with tempfile.TemporaryDirectory() as folder:

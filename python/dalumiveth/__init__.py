@@ -4,6 +4,7 @@
     run = plan.run(A, b)            many times: run.x, run.pivot_rows, run.updates, run.L, run.U
     x = plan.solve(A, b)            the solution alone
     factor = dalumiveth.splu(A)     in the manner of scipy.sparse.linalg.splu
+    dalumiveth.write_offset(x[0])   milliarcseconds as "+012 34 56.789"; read_offset reads such a text
 
 How things count here:
 
@@ -19,6 +20,7 @@ DALUMIVETH_LIBRARY names. It is loaded by the first call. numpy is needed; SciPy
 
 from .factors import Factor, splu
 from .jobs import job
+from .offsets import Offset, read_offset, write_offset
 from .patterns import CSR
 from .plans import Counts, Plan, Stores, plan
 from .refusals import SENTENCES, Refusal
@@ -26,5 +28,6 @@ from .runs import Run
 from .tallies import Tally
 
 __all__ = [
-    "CSR", "Counts", "Factor", "Plan", "Refusal", "Run", "SENTENCES", "Stores", "Tally", "job", "plan", "splu",
+    "CSR", "Counts", "Factor", "Offset", "Plan", "Refusal", "Run", "SENTENCES", "Stores", "Tally", "job", "plan", "read_offset",
+    "splu", "write_offset",
 ]

@@ -14,6 +14,7 @@ LARGEST_USIZE = 2**64 - 1
 # In C a slice is a pointer followed by its length in elements.
 _SLICE = [ctypes.c_void_p, ctypes.c_size_t]
 _NUMBER = [ctypes.c_size_t]
+_REAL = [ctypes.c_double]
 
 _PATTERN = 2 * _NUMBER + 2 * _SLICE  # most, n; starts, columns
 _COUNTS = _SLICE
@@ -32,6 +33,8 @@ _PARAMETERS = {
     "dalumiveth_run": _PATTERN + _COUNTS + _STORES + _SYSTEM + _ROWS + _EXTENT + _RESULTS + _RUN_WORK + _ANSWER,
     "dalumiveth_tally_add": [ctypes.c_uint32] + _NUMBER + _ANSWER,
     "dalumiveth_job": 2 * _SLICE + _ANSWER,
+    "dalumiveth_read_offset": 2 * _SLICE + _ANSWER,
+    "dalumiveth_write_offset": _REAL + _SLICE + _ANSWER,
 }
 
 

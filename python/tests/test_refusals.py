@@ -1,13 +1,14 @@
-"""Every refusal, 1 to 19, where a caller from Python can bring it about."""
+"""Every refusal, 1 to 19, 28 and 29, where a caller from Python can bring it about."""
 
 import pickle
+import re
 import struct
 import unittest
 
 import numpy as np
 
 from dalumiveth.library import USIZE, call, lend
-from support import csr, dalumiveth, diagonal, four_fields, refusal_of
+from support import ROOT, csr, dalumiveth, diagonal, four_fields, refusal_of
 
 
 class OfPatterns(unittest.TestCase):
@@ -245,13 +246,44 @@ class OfTallies(unittest.TestCase):
             dalumiveth.Tally().add(1.0)
 
 
+class OfOffsets(unittest.TestCase):
+    def test_28(self):
+        for text in ("-000 00 00.000", "+360 00 00.000", "+012 60 00.000", "+012 34 60.000", "", b"+012 34 56.78", "+012 34 56.789\n"):
+            self.assertEqual(refusal_of(dalumiveth.read_offset, text), (28, 0), text)
+
+    def test_29(self):
+        for value in (1295999999.5, -1295999999.5, 2.0**52, np.inf, -np.inf, np.nan, 2**2000, -(2**2000)):
+            self.assertEqual(refusal_of(dalumiveth.write_offset, value), (29, 0), value)
+
+    def test_6_before_28(self):
+        """The exported functions themselves: a store for the value has one place, one for the text 14."""
+        for text in (b"+012 34 56.789", b"-000 00 00.000", b"x"):
+            for room in (0, 2, 14):
+                value, answer = np.full(room, np.nan), np.ones(6, dtype=USIZE)
+                self.assertEqual(call("dalumiveth_read_offset", *lend(np.frombuffer(text, dtype=np.uint8), value, answer)), 6)
+                self.assertEqual((answer.tolist(), value.view(USIZE).any()), ([6, 0, 0, 0, 0, 0], False))
+
+    def test_6_before_29(self):
+        for value in (1.0, 1296000000.0, np.inf, np.nan):
+            for room in (0, 1, 13, 15):
+                out, answer = np.ones(room, dtype=np.uint8), np.ones(3, dtype=USIZE)
+                self.assertEqual(call("dalumiveth_write_offset", value, *lend(out, answer)), 6)
+                self.assertEqual((answer.tolist(), out.any()), ([6, 0, 0], False))
+
+
 class Sentences(unittest.TestCase):
-    def test_nineteen(self):
-        self.assertEqual(sorted(dalumiveth.SENTENCES), list(range(1, 20)))
+    def test_of_offsets(self):
+        """The header's words."""
+        header = dict(re.findall(r'case ([0-9]+): return "(.*)";', (ROOT / "include" / "dalumiveth.h").read_text()))
+        for number in (28, 29):
+            self.assertEqual(dalumiveth.SENTENCES[number], ("offset", header[str(number)]))
+
+    def test_every_one(self):
+        self.assertEqual(sorted(dalumiveth.SENTENCES), [*range(1, 20), 28, 29])
         for number in dalumiveth.SENTENCES:
             refusal = dalumiveth.Refusal(number, 7)
             self.assertIn(refusal.sentence, str(refusal))
-            self.assertIn(refusal.where, ("pattern", "plan stores", "values", "run", "job", "tally"))
+            self.assertIn(refusal.where, ("pattern", "plan stores", "values", "run", "job", "tally", "offset"))
             again = pickle.loads(pickle.dumps(refusal))
             self.assertEqual((again.number, again.step, str(again)), (number, 7, str(refusal)))
         self.assertIn("an entry of magnitude at least 2^-1022", dalumiveth.Refusal(13, 7).sentence)

@@ -1,5 +1,6 @@
--- What the contracts of planning's calls and of the runs cite besides the foundation.
+-- What the contracts of planning's calls, of the runs and of reading and writing offsets cite besides the foundation.
 pub mod Answers
 pub mod Stores
 pub mod Runs
 pub mod RunStores
+pub mod Offsets

@@ -1,15 +1,19 @@
 -- From what a call keeps, and what is told of its answer, to the contract of the exported function.
 use mathlib.Core.Bool.{true, false}
 use mathlib.Core.List.{List, [], _∷_}
-use mathlib.Core.Path.{_≡_, ap, subst, _∙_}
+use mathlib.Core.Path.{_≡_, refl, ap, subst, _∙_}
 use Prim.Native.Nat.{ℕ, _+_, _-_, _≤_}
 use native.Mathlib.Omega.{arith}
 use lib.Dec.{eqb}
-use lib.ListN.{length, take, length-append, length-replicate}
+use lib.IntN.{ℤ}
+use lib.Ieee.{Float, binary64, ofBits}
+use lib.ListN.{length, take, replicate, length-append, length-replicate}
 use borrow.Author.Tests.{eq-eqb, ne-eqb}
 use Rattle.lists.specs.Functions.{padded}
 use Rattle.lists.proofs.Places.{padded-take}
-use Rattle.foundation.specs.Answer.{Answer, refuseIf, resultStore}
+use Rattle.foundation.specs.Answer.{Answer, refused, granted, refuseIf, resultStore}
+use Rattle.foundation.specs.Numbers.{plusZero}
+use Rattle.foundation.specs.OffsetCall.{readOffset, readInto, readLeaves, writeOffset, writeLeaves}
 use Rattle.foundation.specs.Pattern.{Lent}
 use Rattle.foundation.specs.PlanCall.{PlanStores, Counts}
 use Rattle.foundation.specs.Printing.{printed}
@@ -17,6 +21,7 @@ use Rattle.foundation.specs.Reference.{Extent}
 use Rattle.foundation.specs.RunCall.{Lending, RunStores}
 use Rattle.foundation.specs.Tally.{tallyAnswer}
 use Rattle.answers.specs.Answers.{answerOf, verifyAnswerOf, countsIn}
+use Rattle.answers.specs.Offsets.{writeAnswerOf}
 use Rattle.answers.specs.Runs.{chosenBy, runAnswerOf, extentOf}
 use Rattle.answers.specs.Stores.{WorkStores, lentPlan}
 use Rattle.answers.specs.declared.Extent.{Extent as CallExtent}
@@ -25,13 +30,14 @@ use Rattle.answers.specs.declared.PlanAnswer.{PlanAnswer}
 use Rattle.answers.specs.declared.PlanCounts.{PlanCounts}
 use Rattle.answers.specs.declared.RunAnswer.{RunAnswer}
 use Rattle.answers.specs.declared.VerifyAnswer.{VerifyAnswer}
+use Rattle.answers.specs.declared.WriteAnswer.{WriteAnswer}
 use Rattle.planning.specs.Calls.{PlanKept, VerifyKept}
 use Rattle.elimination.specs.Calls.{RunWork, RunKept}
 use Rattle.tally.specs.Calls.{tallyAnswerOf}
 use Rattle.tally.specs.declared.TallyAnswer.{TallyAnswer}
-use Rattle.numbers.specs.Numbered.{refusalNumber, numbersOf, planNumbers, verifyNumbers, runNumbers, jobNumbers, tallyNumbers, cutOrPadded, countsFrom}
+use Rattle.numbers.specs.Numbered.{refusalNumber, numbersOf, planNumbers, verifyNumbers, runNumbers, jobNumbers, tallyNumbers, offsetNumbers, readNumbers, writeNumbers, cutOrPadded, countsFrom}
 use Rattle.numbers.proofs.CutOrPadded.{cut-or-padded-whole, cut-or-padded-none}
-use Rattle.dalumiveth.specs.Calls.{lentFrom, PlanTold, VerifyTold, RunTold, TallyTold, textRoom, jobCall, JobTold}
+use Rattle.dalumiveth.specs.Calls.{lentFrom, PlanTold, VerifyTold, RunTold, TallyTold, textRoom, jobCall, JobTold, ReadTold, WriteTold}
 
 -- what a telling function ensures of an answer, given what the answer is
 module _ {A : Type 0} (shown : Answer A → List ℕ) (r : ℕ) (answer answer′ : List ℕ) (a b : Answer A) (same : a ≡ b)
@@ -122,3 +128,45 @@ unfolding jobCall refuseIf resultStore refusalNumber jobNumbers numbersOf
 job-refused r job out out′ answer answer′ other o t =
     let fails : eqb (length out) textRoom ≡ false = ne-eqb (length out) textRoom other in
     record { returned = rw fails (t .0); numbers = rw fails (t .1); text = rw fails (o ∙ cut-or-padded-none (length out)) }
+
+-- ---- offsets
+
+pub write-told : (r : ℕ) (value : Float) (out out′ answer answer′ : List ℕ) (a : WriteAnswer)
+    → (writeAnswerOf a ≡ writeOffset (length out) value) × (out′ ≡ writeLeaves (length out) value)
+    → (r ≡ refusalNumber (writeAnswerOf a)) × (answer′ ≡ cutOrPadded (length answer) (writeNumbers (writeAnswerOf a)))
+    → WriteTold r value out out′ answer answer′
+write-told r value out out′ answer answer′ a (is, left) t =
+    record {
+      returned = returned-is writeNumbers r answer answer′ _ _ is t;
+      numbers = told-is writeNumbers r answer answer′ _ _ is t;
+      text = left;
+    }
+
+-- the literal 0.0 of the code
+nought-is : ofBits binary64 0x0000000000000000 ≡ plusZero
+unfolding ofBits plusZero
+nought-is = refl
+
+module _ (r : ℕ) (text : List ℕ) (value value′ : List Float) (answer answer′ : List ℕ) where
+  -- a store of another length than one
+  pub read-without-place : (length value ≡ 1 → ⊥) → value′ ≡ replicate (length value) (ofBits binary64 0x0000000000000000)
+      → (r ≡ 6) × (answer′ ≡ cutOrPadded (length answer) (6 ∷ 0 ∷ [])) → ReadTold r text value value′ answer answer′
+  unfolding readInto readLeaves refuseIf resultStore refusalNumber readNumbers numbersOf
+  read-without-place other filled t =
+      let fails : eqb (length value) 1 ≡ false = ne-eqb (length value) 1 other in
+      record { returned = rw fails (t .0); numbers = rw fails (t .1); float = rw (fails, ← nought-is) filled }
+
+  module _ (one : length value ≡ 1) where
+    pub read-refused : refused 28 0 ≡ readOffset text → value′ ≡ replicate (length value) (ofBits binary64 0x0000000000000000)
+        → (r ≡ 28) × (answer′ ≡ cutOrPadded (length answer) (28 ∷ 0 ∷ [])) → ReadTold r text value value′ answer answer′
+    unfolding readInto readLeaves refuseIf resultStore refusalNumber readNumbers numbersOf
+    read-refused is filled t =
+        let fits : eqb (length value) 1 ≡ true = eq-eqb (length value) 1 one in
+        record { returned = rw (fits, ← is) (t .0); numbers = rw (fits, ← is) (t .1); float = rw (fits, ← is, ← nought-is) filled }
+
+    pub read-told : (w : ℤ) (x : Float) → granted (w, x) ≡ readOffset text → value′ ≡ replicate (length value) x
+        → (r ≡ 0) × (answer′ ≡ cutOrPadded (length answer) (0 ∷ 0 ∷ offsetNumbers w)) → ReadTold r text value value′ answer answer′
+    unfolding readInto readLeaves refuseIf resultStore refusalNumber readNumbers numbersOf padded
+    read-told w x is filled t =
+        let fits : eqb (length value) 1 ≡ true = eq-eqb (length value) 1 one in
+        record { returned = rw (fits, ← is) (t .0); numbers = rw (fits, ← is) (t .1); float = rw (fits, ← is) (filled ∙ rw one refl) }

@@ -5,8 +5,10 @@ use mathlib.Core.List.{List}
 use mathlib.Core.Path.{_≡_}
 use Prim.Native.Nat.{ℕ}
 use lib.Dec.{eqb}
+use lib.Ieee.{Float}
 use lib.ListN.{length}
 use Rattle.foundation.specs.Answer.{Answer, granted, refuseIf, resultStore}
+use Rattle.foundation.specs.OffsetCall.{readInto, readLeaves, writeOffset, writeLeaves}
 use Rattle.foundation.specs.Pattern.{Lent}
 use Rattle.foundation.specs.PlanCall.{PlanStores, LentPlan, planned, planAnswer, planLeaves, held}
 use Rattle.foundation.specs.Printing.{printed}
@@ -18,7 +20,7 @@ use Rattle.answers.specs.Stores.{WorkStores, workSizes, WorkLeft}
 use Rattle.answers.specs.declared.PivotChoice.{PivotChoice}
 use Rattle.answers.specs.declared.PivotChoice.the-variants.{Largest, Listed}
 use Rattle.elimination.specs.Calls.{RunWork, runWorkSizes, RunWorkLeft}
-use Rattle.numbers.specs.Numbered.{refusalNumber, planNumbers, verifyNumbers, runNumbers, jobNumbers, tallyNumbers, cutOrPadded, countsFrom}
+use Rattle.numbers.specs.Numbered.{refusalNumber, planNumbers, verifyNumbers, runNumbers, jobNumbers, tallyNumbers, readNumbers, writeNumbers, cutOrPadded, countsFrom}
 
 -- a lent plan, its counts given as numbers
 abbrev pub lentFrom : List ℕ → PlanStores → LentPlan
@@ -72,3 +74,17 @@ pub record JobTold (r : ℕ) (job out out′ answer answer′ : List ℕ) : Type
   pub numbers : answer′ ≡ cutOrPadded (length answer) (jobNumbers (jobCall (length out) job))
   -- the printed bytes and zeros behind them, or zeros throughout
   pub text : out′ ≡ resultStore 0 (length out) (λ text. text) (jobCall (length out) job)
+
+pub record ReadTold (r : ℕ) (text : List ℕ) (value value′ : List Float) (answer answer′ : List ℕ) : Type 0 where
+  pub returned : r ≡ refusalNumber (readInto (length value) text)
+  -- the whole number that was read, or the refusal
+  pub numbers : answer′ ≡ cutOrPadded (length answer) (readNumbers (readInto (length value) text))
+  -- the f64 equal to it, or +0 throughout
+  pub float : value′ ≡ readLeaves (length value) text
+
+pub record WriteTold (r : ℕ) (value : Float) (out out′ answer answer′ : List ℕ) : Type 0 where
+  pub returned : r ≡ refusalNumber (writeOffset (length out) value)
+  -- the whole number that was written, or the refusal
+  pub numbers : answer′ ≡ cutOrPadded (length answer) (writeNumbers (writeOffset (length out) value))
+  -- its text, or zeros throughout
+  pub text : out′ ≡ writeLeaves (length out) value

@@ -16,3 +16,4 @@ pub mod Free
 pub mod Job
 pub mod Printing
 pub mod Tally
+pub mod Offset

@@ -35,6 +35,9 @@ pub mod LargestRow
 pub mod FiniteRun
 pub mod PivotSteps
 pub mod LargestSteps
+pub mod OffsetTexts
+pub mod Nearest
+pub mod Offsets
 pub mod Theorems
 pub mod Open
 pub mod Marked

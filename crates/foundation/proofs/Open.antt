@@ -9,3 +9,4 @@ pub mod Runs
 pub mod Jobs
 pub mod Prints
 pub mod Tallies
+pub mod Offsets

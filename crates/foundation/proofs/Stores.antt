@@ -11,7 +11,7 @@ use Rattle.foundation.specs.RunCall.{Ran, runAnswer}
 -- ---- answers
 
 -- a refusal grants nothing
-pub not-granted : {A : Type 0} (number step : ℕ) → _≡_ {A = Answer (Unit {0})} (refused number step) (granted tt) → A
+pub not-granted : {A B : Type 0} {b : B} (number step : ℕ) → _≡_ {A = Answer B} (refused number step) (granted b) → A
 not-granted number step e = let z : _≡_ {A = ℕ} 0 1 = cc in absurd (omega arith)
 
 -- a run that was answered with a refusal was refused

@@ -1,4 +1,5 @@
--- The theorems that a release rests on, in one place: most of every pattern that passes 1 to 5, some of any pattern or plan, as each says.
+-- The theorems that a release rests on, in one place: most of every pattern that passes 1 to 5, some of any pattern or plan, those of offsets of every text and float, as each
+-- says.
 use mathlib.Core.Bool.{true, not}
 use mathlib.Core.List.{[]}
 use mathlib.Core.Path.{_≡_, ap}
@@ -12,7 +13,7 @@ use Rattle.foundation.specs.Plan.{Side, plan}
 use Rattle.foundation.specs.Subscripts.{kept}
 use Rattle.foundation.specs.RunCall.{Lending, allFinite, valueAt, rightAt}
 use Rattle.foundation.specs.Facts.{PlanFacts, Opens, sizesOf}
-use Rattle.foundation.specs.Claims.{FirstHalf, RunsOn, SlotsSuffice, MultipliersStay, ZeroOutside, LaidBack, OwnSlots, SlotsWithin, MetOnce, JobRoom, RunsAlike, ListedPivots, PivotsCounted, PlanAccepted, RoomEnough, SlotsEnough, PlannedRunsAlike, LargestRow, ListedRow, StoresOpen, FiniteGiven, FiniteThroughout, LargestAtEveryStep, PivotsReach, ListedStops, LegalLists, AnswerRoom}
+use Rattle.foundation.specs.Claims.{FirstHalf, RunsOn, SlotsSuffice, MultipliersStay, ZeroOutside, LaidBack, OwnSlots, SlotsWithin, MetOnce, JobRoom, RunsAlike, ListedPivots, PivotsCounted, PlanAccepted, RoomEnough, SlotsEnough, PlannedRunsAlike, LargestRow, ListedRow, StoresOpen, FiniteGiven, FiniteThroughout, LargestAtEveryStep, PivotsReach, ListedStops, LegalLists, AnswerRoom, ReadsTexts, OtherTexts, WithinHalf, OnlyNearest, BeyondLargest, FloatEqual, ZeroWithPlus, WrittenReads, ReadWrites}
 use Rattle.foundation.proofs.Passing.{passes-plannable, passes-entries}
 use Rattle.foundation.proofs.Steps.{list-none}
 use Rattle.foundation.proofs.PlanFacts.{plan-facts}
@@ -37,6 +38,8 @@ use Rattle.foundation.proofs.StoresOpen.{stores-open-from}
 use Rattle.foundation.proofs.FiniteRun
 use Rattle.foundation.proofs.LargestSteps
 use Rattle.foundation.proofs.PivotSteps
+use Rattle.foundation.proofs.OffsetTexts
+use Rattle.foundation.proofs.Offsets
 
 -- the plan's facts
 pub plan-has-its-facts : (most : ℕ) (p : Lent) → patternFault most p ≡ 0 → PlanFacts (patternOf p) (plan (patternOf p))
@@ -161,3 +164,34 @@ listed-stops = PivotSteps.listed-stops
 
 pub legal-lists : LegalLists
 legal-lists = PivotSteps.legal-lists
+
+-- a text reads as a whole number just where it is its text; any other is 28
+pub reads-texts : ReadsTexts
+reads-texts = OffsetTexts.reads-texts
+
+pub other-texts : OtherTexts
+other-texts = OffsetTexts.other-texts
+
+-- what a float goes to is within half a milliarcsecond, even at a half, and nothing else is; 29 is given just where the float is not finite or from the largest and a half on
+pub within-half : WithinHalf
+within-half = Offsets.within-half
+
+pub only-nearest : OnlyNearest
+only-nearest = Offsets.only-nearest
+
+pub beyond-largest : BeyondLargest
+beyond-largest = Offsets.beyond-largest
+
+-- the f64 of a whole number is equal to it
+pub float-equal : FloatEqual
+float-equal = Offsets.float-equal
+
+-- zero is written with plus; what was written reads as it, and what was read is written again
+pub zero-with-plus : ZeroWithPlus
+zero-with-plus = Offsets.zero-with-plus
+
+pub written-reads : WrittenReads
+written-reads = Offsets.written-reads
+
+pub read-writes : ReadWrites
+read-writes = Offsets.read-writes

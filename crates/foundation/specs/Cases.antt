@@ -19,3 +19,4 @@ pub mod Free
 pub mod Job
 pub mod Printing
 pub mod Tally
+pub mod Offset

@@ -1,4 +1,4 @@
--- The definitions that every contract and theorem is held to. Each that renders a sentence of document 01 (the scope) or a step of report CS-84-43
+-- The definitions that every contract and theorem is held to. Each that renders a sentence of document 01 (the scope), of a request of document 02 or a step of report CS-84-43
 -- cites it. `Facts`, `Closed` and `Claims` say what is claimed of them; `Marked` and `Cases` are tables of computed cases.
 pub mod Answer
 pub mod Pattern
@@ -17,6 +17,10 @@ pub mod Tally
 pub mod Text
 pub mod Job
 pub mod Printing
+pub mod Offset
+pub mod OffsetReading
+pub mod OffsetRounding
+pub mod OffsetCall
 pub mod Facts
 pub mod Claims
 pub mod Table

@@ -2,3 +2,4 @@
 pub mod CutOrPadded
 pub mod Refused
 pub mod CountsBack
+pub mod Signed

@@ -3,11 +3,14 @@ use mathlib.Core.Bool.{cond}
 use mathlib.Core.List.{List, [], _∷_}
 use Prim.Native.Nat.{ℕ}
 use lib.Dec.{eqb}
+use lib.IntN.{ℤ, natAbs}
+use lib.Ieee.{Float}
 use lib.ListN.{length, getD, take}
 use Rattle.lists.specs.Functions.{padded}
 use Rattle.foundation.specs.Answer.{Answer, refused, granted}
 use Rattle.foundation.specs.PlanCall.{Counts, countNumbers}
 use Rattle.foundation.specs.Reference.{Extent, whole, cut}
+use Rattle.foundation.specs.Offset.{negative}
 use Rattle.foundation.specs.Tally.{keptSum}
 use Rattle.answers.specs.Answers.{counted}
 use Rattle.numbers.specs.declared.refusals.NumberAndStep.{NumberAndStep}
@@ -48,6 +51,17 @@ jobNumbers = numbersOf (λ text. length text ∷ [])
 -- The tally's answer, and the sum that it has afterwards: "the tally, which is no result store, keeps its old sum".
 unfoldable pub tallyNumbers : ℕ → Answer ℕ → List ℕ
 tallyNumbers sum a = refusalNumber a ∷ refusalStep a ∷ keptSum sum a ∷ []
+
+-- a whole number: 1 where it is below zero, else 0, and its size
+unfoldable pub offsetNumbers : ℤ → List ℕ
+offsetNumbers w = cond (negative w) 1 0 ∷ natAbs w ∷ []
+
+-- the answers to reading and to writing an offset: the whole number that was read or written
+unfoldable pub readNumbers : Answer (ℤ × Float) → List ℕ
+readNumbers = numbersOf (λ r. offsetNumbers (r .0))
+
+unfoldable pub writeNumbers : Answer ℤ → List ℕ
+writeNumbers = numbersOf offsetNumbers
 
 -- What a lent store of `room` places holds of a list: as much as there is room for, and 0 behind it.
 unfoldable pub cutOrPadded : ℕ → List ℕ → List ℕ

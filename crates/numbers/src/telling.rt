@@ -1,19 +1,24 @@
-// Each answer told in numbers: 0, 0 and the values, or the refusal's number and step. The refusal's number, 0 if there is none, is returned too.
+// Answers told in numbers: 0, 0 and the values, or the refusal's number and step. The refusal's number, 0 if there is none, is returned too.
+ghost use mathlib.Core.List.{_∷_};
 ghost use mathlib.Core.Path.{_≡_};
 ghost use lib.ListN.{length};
 ghost use Rattle.answers.specs.Answers.{answerOf, verifyAnswerOf};
+ghost use Rattle.answers.specs.Offsets.{writeAnswerOf};
 ghost use Rattle.answers.specs.Runs.{runAnswerOf};
 ghost use Rattle.tally.specs.Calls.{tallyAnswerOf};
-ghost use Rattle.numbers.specs.Numbered.{cutOrPadded, refusalNumber, planNumbers, verifyNumbers, runNumbers, tallyNumbers};
+ghost use Rattle.numbers.specs.Numbered.{cutOrPadded, refusalNumber, planNumbers, verifyNumbers, runNumbers, tallyNumbers, offsetNumbers, writeNumbers};
 use crate::counting::count_numbers;
 use crate::laying::put;
 use crate::laying::put_refusal;
 use crate::refusals::number_and_step;
 use crate::refusals::number_of;
+use crate::signs::minus_of;
+use crate::signs::size_of;
 use answers::PlanAnswer;
 use answers::RunAnswer;
 use answers::RunOutcome;
 use answers::VerifyAnswer;
+use answers::WriteAnswer;
 use tally::TallyAnswer;
 
 // Nine numbers: 0, 0 and the seven counts, or the refusal.
@@ -94,5 +99,29 @@ pub fn tell_tally(sum: u32, answered: TallyAnswer, answer: &mut [usize]) -> usiz
             put(&numbers, answer);
             19
         }
+    }
+}
+
+// Four numbers: 0, 0, 1 where the whole number is below zero, and its size.
+pub fn tell_offset(whole: i64, answer: &mut [usize]) -> usize
+    ensures returned { λ r. ⌜ r ≡ 0 ⌝ }
+    ensures numbers { λ r. ⌜ now (answer .exit) ≡ cutOrPadded (length (now (answer .entry))) (0 ∷ 0 ∷ offsetNumbers whole) ⌝ }
+{
+    let minus = minus_of(whole);
+    let size = size_of(whole);
+    let numbers = [0, 0, minus, size];
+    put(&numbers, answer);
+    0
+}
+
+// The whole number that was written, or the refusal.
+pub fn tell_written(answered: WriteAnswer, answer: &mut [usize]) -> usize
+    ensures returned { λ r. ⌜ r ≡ refusalNumber (writeAnswerOf answered) ⌝ }
+    ensures numbers { λ r. ⌜ now (answer .exit) ≡ cutOrPadded (length (now (answer .entry))) (writeNumbers (writeAnswerOf answered)) ⌝ }
+{
+    match answered {
+        WriteAnswer::Written(whole) => tell_offset(whole, answer),
+        WriteAnswer::Stores => put_refusal(6, 0, answer),
+        WriteAnswer::Beyond => put_refusal(29, 0, answer),
     }
 }

@@ -1,0 +1,2 @@
+-- What the code rounds, and what it answers.
+pub mod Sizes

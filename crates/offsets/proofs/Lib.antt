@@ -1,0 +1,3 @@
+-- Whole numbers in the machine's words, and the answers of the calls.
+pub mod Words
+pub mod Answers
