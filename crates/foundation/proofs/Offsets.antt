@@ -94,7 +94,7 @@ half-apart a b n p =
     (omega (arith, p .above), λ h. p .even-above (omega arith)))
 
 pub within-half : WithinHalf
-unfolding WithinHalf roundedTo withinReach
+unfolding WithinHalf writeOffset refuseIf roundedTo withinReach
 within-half s m e w =
     let a = m * up e in
     let b = down e in
@@ -142,7 +142,7 @@ nearest-is true a b n (negsuc k) p near h even =
     ap (λ (x : ℕ). negℤ (pos x)) (near-unique a b (suc k) n p (near-of a b (suc k) (rw far at h) (rw far at even)) near)
 
 pub only-nearest : OnlyNearest
-unfolding OnlyNearest roundedTo withinReach
+unfolding OnlyNearest writeOffset refuseIf roundedTo withinReach
 only-nearest s m e w other =
     let n = nearestWhole (m * up e) (down e) in
     by-test (leb n largestOffset)
@@ -176,7 +176,7 @@ no-number (inf s) h = refl
 no-number (fin s m e) h = absurd (false≢true (sym h))
 
 pub beyond-largest : BeyondLargest
-unfolding BeyondLargest roundedTo
+unfolding BeyondLargest writeOffset refuseIf roundedTo
 beyond-largest = (
   no-number,
   λ s m e. (
@@ -194,7 +194,7 @@ leaves-text room x w fits e =
     rw (eq-eqb room 14 fits, e) (refl, rw full (padded-full 0 (textOf w)))
 
 rounds-small : (x : Float) (w : ℤ) → roundedTo x ≡ granted w → natAbs w ≤ largestOffset
-unfolding roundedTo WithinHalf
+unfolding roundedTo WithinHalf writeOffset refuseIf
 rounds-small nan w h = not-granted 29 0 h
 rounds-small (inf s) w h = not-granted 29 0 h
 rounds-small (fin s m e) w h = within-half s m e w h .2

@@ -30,7 +30,6 @@ use Rattle.foundation.specs.Printing.{jobRun, printed}
 use Rattle.foundation.specs.Text.{ascii}
 use Rattle.foundation.specs.Offset.{largestOffset, negative, signed, textOf}
 use Rattle.foundation.specs.OffsetReading.{readAs}
-use Rattle.foundation.specs.OffsetRounding.{roundedTo}
 use Rattle.foundation.specs.OffsetCall.{floatOf, offsetBytes, readOffset, writeOffset, writeLeaves}
 
 -- Demand 3, first half, "one claim about the whole list of steps, the empty list included": for every pattern that can be planned, every set of
@@ -408,7 +407,7 @@ FloatEqual = (w : ℤ) → natAbs w ≤ largestOffset → HasValue (floatOf w) (
 unfoldable pub WithinHalf : Type 0
 WithinHalf =
     (s : Bool) (m : ℕ) (e w : ℤ)
-    → roundedTo (fin s m e) ≡ granted w
+    → writeOffset offsetBytes (fin s m e) ≡ granted w
     → (2 * natAbs (w *ℤ pos (down e) -ℤ signed s (m * up e)) ≤ down e)
     × (2 * natAbs (w *ℤ pos (down e) -ℤ signed s (m * up e)) ≡ down e → natAbs w % 2 ≡ 0)
     × (natAbs w ≤ largestOffset)
@@ -417,7 +416,7 @@ WithinHalf =
 unfoldable pub OnlyNearest : Type 0
 OnlyNearest =
     (s : Bool) (m : ℕ) (e w other : ℤ)
-    → roundedTo (fin s m e) ≡ granted w
+    → writeOffset offsetBytes (fin s m e) ≡ granted w
     → 2 * natAbs (other *ℤ pos (down e) -ℤ signed s (m * up e)) ≤ down e
     → (2 * natAbs (other *ℤ pos (down e) -ℤ signed s (m * up e)) ≡ down e → natAbs other % 2 ≡ 0)
     → other ≡ w
@@ -426,10 +425,10 @@ OnlyNearest =
 -- number below that.
 unfoldable pub BeyondLargest : Type 0
 BeyondLargest =
-    ((x : Float) → finite x ≡ false → roundedTo x ≡ refused 29 0)
+    ((x : Float) → finite x ≡ false → writeOffset offsetBytes x ≡ refused 29 0)
     × ((s : Bool) (m : ℕ) (e : ℤ)
-    → ((2 * largestOffset + 1) * down e ≤ 2 * (m * up e) → roundedTo (fin s m e) ≡ refused 29 0)
-    × (2 * (m * up e) < (2 * largestOffset + 1) * down e → (w : ℤ) × (roundedTo (fin s m e) ≡ granted w)))
+    → ((2 * largestOffset + 1) * down e ≤ 2 * (m * up e) → writeOffset offsetBytes (fin s m e) ≡ refused 29 0)
+    × (2 * (m * up e) < (2 * largestOffset + 1) * down e → (w : ℤ) × (writeOffset offsetBytes (fin s m e) ≡ granted w)))
 
 -- "writes zero with plus": whatever float goes to zero, and whatever its sign.
 unfoldable pub ZeroWithPlus : Type 0

@@ -57,16 +57,13 @@ nought-less (suc n) = ap pos (omega arith)
 least-size : (n : ℕ) → SFits w64 (negsuc n) → n < 9223372036854775808
 least-size n fits = fits .sfits
 
-module _ (n : ℕ) (small : n < 9223372036854775808) where
-  minus-fits : SFits w64 (negℤ (pos n))
-  minus-fits = of n small
-    where
-      of : (n : ℕ) → n < 9223372036854775808 → SFits w64 (negℤ (pos n))
-      of zero h = record { sfits = omega arith }
-      of (suc n) h = record { sfits = omega arith }
+-- a size below 2^63 fits an i64 with either sign
+pub plus-fits : (n : ℕ) → n < 9223372036854775808 → SFits w64 (pos n)
+plus-fits n small = record { sfits = small }
 
-  plus-fits : SFits w64 (pos n)
-  plus-fits = record { sfits = small }
+pub minus-fits : (n : ℕ) → n < 9223372036854775808 → SFits w64 (negℤ (pos n))
+minus-fits zero small = record { sfits = omega arith }
+minus-fits (suc n) small = record { sfits = omega arith }
 
 -- what the code makes of a number, step by step
 abbrev Raised : ℤ → ℤ

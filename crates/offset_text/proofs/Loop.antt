@@ -1,5 +1,5 @@
 -- The loop over a form and a text: what is left of both decides.
-use mathlib.Core.Bool.{Bool, true, false, not, _&&_}
+use mathlib.Core.Bool.{true, false, _&&_}
 use mathlib.Core.List.{List}
 use mathlib.Core.Path.{_≡_, sym, _∙_}
 use Prim.Native.Nat.{ℕ, _+_, _≤_, _<_}
@@ -7,7 +7,6 @@ use native.Mathlib.Numerals.{add-one}
 use native.Mathlib.Omega.{arith}
 use lib.ListN.{length, getD, drop, drop-of-length-le}
 use lib.Seq.{drop-cons}
-use borrow.Author.Tests.{not-true, not-false}
 use Rattle.lists.proofs.Members.{fails}
 use Rattle.foundation.specs.OffsetReading.{mayStand, hasForm}
 use Rattle.foundation.proofs.OffsetTexts.{form-length}
@@ -22,15 +21,11 @@ module _ (kinds text : List ℕ) where
       unfolding hasForm
       next-two = rw (drop-cons kinds i 0 inside, drop-cons text i 0 (omega arith), add-one i)
 
-      pub not-standing : (r : Bool) → not r ≡ true → r ≡ mayStand (getD kinds i 0) (getD text i 0) → false ≡ hasForm kinds text
-      not-standing r h e =
-          let falls : mayStand (getD kinds i 0) (getD text i 0) ≡ false = sym e ∙ not-true r h in
-          sym (sym left ∙ next-two ∙ rw falls)
+      pub not-standing : mayStand (getD kinds i 0) (getD text i 0) ≡ false → false ≡ hasForm kinds text
+      not-standing falls = sym (sym left ∙ next-two ∙ rw falls)
 
-      pub standing : (r : Bool) → not r ≡ false → r ≡ mayStand (getD kinds i 0) (getD text i 0) → hasForm (drop (i + 1) kinds) (drop (i + 1) text) ≡ hasForm kinds text
-      standing r h e =
-          let stands : mayStand (getD kinds i 0) (getD text i 0) ≡ true = sym e ∙ not-false r h in
-          sym (sym left ∙ next-two ∙ rw stands)
+      pub standing : mayStand (getD kinds i 0) (getD text i 0) ≡ true → hasForm (drop (i + 1) kinds) (drop (i + 1) text) ≡ hasForm kinds text
+      standing stands = sym (sym left ∙ next-two ∙ rw stands)
 
     pub at-the-end : length kinds ≤ i → true ≡ hasForm kinds text
     unfolding hasForm

@@ -1,12 +1,12 @@
 -- The fields' numbers, their ranges, and the whole text.
-use mathlib.Core.Bool.{Bool, true, false, not}
+use mathlib.Core.Bool.{true, false, not}
 use mathlib.Core.List.{List}
-use mathlib.Core.Path.{_≡_, sym, _∙_}
+use mathlib.Core.Path.{_≡_}
 use Prim.Native.Nat.{ℕ, _+_, _*_, _-_, _≤_, _<_}
 use native.Mathlib.Omega.{arith}
 use lib.Dec.{eqb, ltb}
 use lib.ListN.{length, getD}
-use borrow.Author.Tests.{lt-ltb, le-ltb, eq-eqb, ne-eqb, not-true, not-false}
+use borrow.Author.Tests.{lt-ltb, le-ltb, eq-eqb, ne-eqb}
 use Rattle.foundation.specs.OffsetReading.{form, hasForm, digitAt, twoAt, threeAt, degrees, minutes, seconds, thousandths, inRange, sizeRead, minusRead, readable}
 
 module _ (t : List ℕ) where
@@ -39,27 +39,21 @@ module _ (t : List ℕ) where
   pub inside : length t ≡ 14 → 0 < length t
   inside h = omega arith
 
-  -- whether it can be read, test by test; r is what the code found
-  pub without-form : (r : Bool) → r ≡ hasForm form t → not r ≡ true → false ≡ readable t
+  -- whether it can be read, test by test
+  pub without-form : hasForm form t ≡ false → false ≡ readable t
   unfolding readable
-  without-form r e h = let fails : hasForm form t ≡ false = sym e ∙ not-true r h in rw fails
-
-  pub found-form : (r : Bool) → r ≡ hasForm form t → not r ≡ false → hasForm form t ≡ true
-  found-form r e h = sym e ∙ not-false r h
+  without-form h = rw h
 
   module _ (formed : hasForm form t ≡ true) where
-    pub out-of-range : (r : Bool) → r ≡ inRange t → not r ≡ true → false ≡ readable t
+    pub out-of-range : inRange t ≡ false → false ≡ readable t
     unfolding readable
-    out-of-range r e h = let fails : inRange t ≡ false = sym e ∙ not-true r h in rw (formed, fails)
+    out-of-range h = rw (formed, h)
 
-    module _ (q : Bool) (is-range : q ≡ inRange t) (ranged : not q ≡ false) where
-      range-holds : inRange t ≡ true
-      range-holds = sym is-range ∙ not-false q ranged
-
+    module _ (ranged : inRange t ≡ true) where
       pub by-size : (n : ℕ) → getD t 0 0 ≡ 45 → n ≡ sizeRead t → not (eqb n 0) ≡ readable t
       unfolding readable minusRead
-      by-size n e f = rw (formed, range-holds, eq-eqb (getD t 0 0) 45 e, f)
+      by-size n e f = rw (formed, ranged, eq-eqb (getD t 0 0) 45 e, f)
 
       pub with-plus : (getD t 0 0 ≡ 45 → ⊥) → true ≡ readable t
       unfolding readable minusRead
-      with-plus e = rw (formed, range-holds, ne-eqb (getD t 0 0) 45 e)
+      with-plus e = rw (formed, ranged, ne-eqb (getD t 0 0) 45 e)

@@ -2,6 +2,7 @@
 ghost use mathlib.Core.Path.{_≡_};
 ghost use Prim.Native.Nat.{_+_, _-_, _≤_};
 ghost use lib.ListN.{length};
+ghost use Rattle.foundation.specs.OffsetCall.{offsetBytes};
 ghost use Rattle.foundation.specs.OffsetReading.{twoAt, threeAt, inRange, sizeRead};
 
 // The number of a digit's byte; of a byte before the digits it is 0.
@@ -36,7 +37,7 @@ fn three_at(text: &[u8], place: usize) -> u64
 
 // Whether degrees, minutes and seconds are in range.
 pub fn in_range(text: &[u8]) -> bool
-    requires { ⌜ length (now text) ≡ 14 ⌝ }
+    requires { ⌜ length (now text) ≡ offsetBytes ⌝ }
     ensures { λ r. ⌜ r ≡ inRange (now (text .entry)) ⌝ }
 {
     if 360 <= three_at(text, 1) {
@@ -50,7 +51,7 @@ pub fn in_range(text: &[u8]) -> bool
 
 // The milliarcseconds of a text, without their sign.
 pub fn size_read(text: &[u8]) -> u64
-    requires { ⌜ length (now text) ≡ 14 ⌝ }
+    requires { ⌜ length (now text) ≡ offsetBytes ⌝ }
     ensures { λ r. ⌜ r ≡ sizeRead (now (text .entry)) ⌝ }
 {
     let degrees = three_at(text, 1);

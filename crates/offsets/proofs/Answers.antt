@@ -1,14 +1,14 @@
 -- The answers of the two calls, case by case, and what writing leaves.
-use mathlib.Core.Bool.{Bool, true, false, not}
+use mathlib.Core.Bool.{Bool, true, false}
 use mathlib.Core.List.{List, []}
-use mathlib.Core.Path.{_≡_, refl, sym, ap, _∙_}
-use Prim.Native.Nat.{ℕ, _≤_, _<_}
+use mathlib.Core.Path.{_≡_, refl, ap, _∙_}
+use Prim.Native.Nat.{ℕ, _≤_}
 use native.Mathlib.Omega.{arith}
 use lib.IntN.{ℤ}
 use lib.Ieee.{Float}
 use lib.ListN.{length, take}
 use lib.Seq.{take-all}
-use borrow.Author.Tests.{eq-eqb, ne-eqb, not-true, not-false}
+use borrow.Author.Tests.{eq-eqb, ne-eqb}
 use Rattle.lists.specs.Functions.{padded}
 use Rattle.foundation.specs.Answer.{refused, granted, refuseIf, andThen, resultStore}
 use Rattle.foundation.specs.Offset.{largestOffset, negative, signed, textWith, textOf}
@@ -19,20 +19,14 @@ use Rattle.foundation.proofs.OffsetTexts.{size-of-signed, form-sized, readable-
 use Rattle.numbers.specs.Numbered.{cutOrPadded}
 use Rattle.numbers.proofs.CutOrPadded.{cut-or-padded-whole, cut-or-padded-none}
 
--- ---- reading; r is what the code found
+-- ---- reading
 
-pub unread : (t : List ℕ) (r : Bool) → r ≡ readable t → not r ≡ true → refused 28 0 ≡ readOffset t
+pub unread : (t : List ℕ) → readable t ≡ false → refused 28 0 ≡ readOffset t
 unfolding readOffset readAs andThen
-unread t r e h = let fails : readable t ≡ false = sym e ∙ not-true r h in rw fails
-
-pub found-readable : (t : List ℕ) (r : Bool) → r ≡ readable t → not r ≡ false → readable t ≡ true
-found-readable t r e h = sym e ∙ not-false r h
+unread t h = rw h
 
 pub sized : (t : List ℕ) → readable t ≡ true → length t ≡ 14
 sized t h = form-sized t (readable-form t h)
-
-pub inside : (t : List ℕ) → readable t ≡ true → 0 < length t
-inside t h = omega (arith, sized t h)
 
 pub read-granted : (t : List ℕ) (w : ℤ) (x : Float) → readable t ≡ true → w ≡ signed (minusRead t) (sizeRead t) → x ≡ floatOf w → granted (w, x) ≡ readOffset t
 unfolding readOffset readAs andThen

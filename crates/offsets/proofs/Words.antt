@@ -11,13 +11,13 @@ use mir.Val.{SFits, toZ, ofZ}
 use mir.ValLaws.{toZ-ofZ}
 use Rattle.foundation.specs.Offset.{largestOffset, signed}
 use Rattle.foundation.proofs.OffsetTexts.{size-of-signed}
+use Rattle.numbers.proofs.Signed.{plus-fits, minus-fits}
 
 -- in the range of an i64
 signed-fits : (minus : Bool) (n : ℕ) → n ≤ largestOffset → SFits w64 (signed minus n)
 unfolding signed
-signed-fits false n h = record { sfits = omega arith }
-signed-fits true zero h = record { sfits = omega arith }
-signed-fits true (suc n) h = record { sfits = omega arith }
+signed-fits false n h = plus-fits n (omega arith)
+signed-fits true n h = minus-fits n (omega arith)
 
 pub signed-back : (w : ℤ) (minus : Bool) (n : ℕ) → w ≡ signed minus n → n ≤ largestOffset → toZ w64 (ofZ w64 w) ≡ signed minus n
 signed-back w minus n e h = rw e (toZ-ofZ w64 (signed minus n) (signed-fits minus n h))

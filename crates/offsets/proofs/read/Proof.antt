@@ -1,15 +1,17 @@
 -- `read` meets its contract: the text is another, or it is read.
 use mathlib.Core.Bool.{true, false, not}
 use mathlib.Core.List.{List}
-use mathlib.Core.Path.{_≡_}
+use mathlib.Core.Path.{_≡_, sym, _∙_}
 use Prim.Native.Nat.{ℕ, _≤_}
 use borrow.Author.Needs.{needs}
+use borrow.Author.Tests.{not-true, not-false}
 use Rattle.foundation.specs.Offset.{largestOffset}
 use Rattle.foundation.specs.OffsetReading.{minusRead, readable}
 use Rattle.foundation.proofs.OffsetTexts.{readable-small}
 use Rattle.answers.specs.Offsets.{readAnswerOf}
+use Rattle.offset_text.proofs.Ranges.{inside}
 use Rattle.offsets.proofs.Words.{signed-back, signed-size}
-use Rattle.offsets.proofs.Answers.{unread, found-readable, sized, inside, read-granted}
+use Rattle.offsets.proofs.Answers.{unread, sized, read-granted}
 use Rattle.offsets.proofs.read.Statement.{statement}
 use Rattle.offsets.proofs.read.Tie as tie
 
@@ -18,7 +20,7 @@ text k = k .before .before .args .text .now
 
 -- the text can be read
 found : (k : tie.After-readable) → not (k .readable .result) ≡ false → readable (text k) ≡ true
-found k left = found-readable _ _ (k .readable .ensures) left
+found k left = sym (k .readable .ensures) ∙ not-false _ left
 
 -- and its size is at most the largest
 small : (k : tie.After-size-read) → k .size-read .result ≤ largestOffset
@@ -29,10 +31,10 @@ readable-requires c κs = search needs
 
 returns : tie.Need-returns
 unfolding readAnswerOf
-returns c = unread _ _ (c .before .readable .ensures) (c .if1 .taken)
+returns c = unread _ (sym (c .before .readable .ensures) ∙ not-true _ (c .if1 .taken))
 
 shared-slice-read-signed : tie.Need-shared-slice-read-signed
-shared-slice-read-signed c = inside (text (c .before .before)) (found (c .before .before) (c .before .if1 .left))
+shared-slice-read-signed c = inside (text (c .before .before)) (sized _ (found (c .before .before) (c .before .if1 .left)))
 
 size-read-requires : tie.Need-size-read-requires
 size-read-requires c κs = sized _ (found (c .before .before) (c .before .if1 .left))

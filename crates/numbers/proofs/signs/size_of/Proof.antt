@@ -1,5 +1,5 @@
 -- `size_of` meets its contract: below zero one more is turned, and one added to it.
-use Rattle.numbers.proofs.Signed.{Below, below, not-below}
+use Rattle.numbers.proofs.Signed.{below, not-below}
 use Rattle.numbers.proofs.signs.size_of.Statement.{statement}
 use Rattle.numbers.proofs.signs.size_of.Tie as tie
 

@@ -1,8 +1,9 @@
 -- `has_form` meets its contract: before turn i what is left of form and text decides.
-use mathlib.Core.Path.{_≡_, refl}
+use mathlib.Core.Path.{_≡_, refl, sym, _∙_}
 use Prim.Native.Nat.{_≤_, _-_}
 use lib.ListN.{length, drop}
 use borrow.Author.Needs.{needs}
+use borrow.Author.Tests.{not-true, not-false}
 use Rattle.foundation.specs.OffsetReading.{hasForm}
 use Rattle.offset_text.proofs.Loop.{another-length, not-standing, standing, at-the-end}
 use Rattle.offset_text.proofs.form.has_form.Statement.{statement}
@@ -32,7 +33,7 @@ may-stand-requires c κs = tt
 returns-2 : tie.Need-returns-2 Inv-loop μ-loop
 returns-2 c =
     let l = c .before .before .before .before .before .loop in
-    not-standing _ _ (l .inv .1) (l .i) (l .inv .2) (search needs) _ (c .if2 .taken) (c .before .may-stand .ensures)
+    not-standing _ _ (l .inv .1) (l .i) (l .inv .2) (search needs) (sym (c .before .may-stand .ensures) ∙ not-true _ (c .if2 .taken))
 
 add-i : tie.Need-add-i Inv-loop μ-loop
 add-i c = search needs
@@ -43,7 +44,7 @@ loop-less c = search needs
 loop-again : tie.Need-loop-again Inv-loop μ-loop
 loop-again c =
     let l = c .before .before .before .before .before .loop in
-    (search needs, search needs, standing _ _ (l .inv .1) (l .i) (l .inv .2) (search needs) _ (c .if2 .left) (c .before .may-stand .ensures))
+    (search needs, search needs, standing _ _ (l .inv .1) (l .i) (l .inv .2) (search needs) (sym (c .before .may-stand .ensures) ∙ not-false _ (c .if2 .left)))
 
 returns-3 : tie.Need-returns-3 Inv-loop μ-loop
 returns-3 c =
