@@ -250,6 +250,14 @@ contains
     character(len=15) :: out
     integer(dlm_size) :: number, answer(6)
     real(dlm_real) :: reals(2)
+    type(dlm_offset) :: offset
+    out = repeat("x", 15)
+    offset = dlm_write_offset(1.0_dlm_real, out(1:13))
+    call expect(offset%refusal == 6 .and. out == repeat(achar(0), 13) // "xx", "a variable of 13 characters is 6")
+    offset = dlm_write_offset(huge(reals(1)), out)
+    call expect(offset%refusal == 6 .and. out == repeat(achar(0), 15), "one of 15 is 6, before 29")
+    offset = dlm_write_offset(1.0_dlm_real, out(2:15))
+    call expect(offset%whole == 1 .and. out == achar(0) // "+000 00 00.001", "14 characters of a longer one are written")
     reals = 7
     number = dalumiveth_read_offset("+360 00 00.000", 14_dlm_size, reals, 2_dlm_size, answer, 4_dlm_size)
     call expect(number == 6 .and. all(answer(1:4) == [6, 0, 0, 0]) .and. all(reals == 0), "a value of two places is 6 before 28")

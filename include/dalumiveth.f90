@@ -297,10 +297,10 @@ contains
   end function
 
   ! Writes the nearest whole number of milliarcseconds, the even one at a half, and answers it. A value that is not finite or rounds
-  ! beyond the largest is 29, and the text is achar(0) throughout.
+  ! beyond the largest is 29, a text of another length than 14 is 6; after either the text is achar(0) throughout.
   function dlm_write_offset(value, text) result(offset)
     real(dlm_real), intent(in) :: value
-    character(len=dlm_offset_bytes), intent(out) :: text
+    character(len=*), intent(out) :: text
     type(dlm_offset) :: offset
     integer(dlm_size) :: numbers(4), number
     number = dalumiveth_write_offset(value, text, len(text, kind=dlm_size), numbers, 4_dlm_size)

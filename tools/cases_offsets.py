@@ -4,7 +4,8 @@
   tools/cases_offsets.py DENSE_FOLDER
 
 DENSE_FOLDER holds the program of different authorship that document 01 asks for (dense_program.py). What a text reads as, the
-text of a float, 28 and 29 come from it; 6 and the zeros after a refusal are said in dense_program.py, the f64 of a whole number is Python's. The files stdin and stdout of the crate are written anew; the seed is fixed, so that they come out the same.
+text of a float, 28 and 29 come from it; 6 and the zeros after a refusal are said in dense_program.py, the f64 of a whole number is Python's.
+The files stdin and stdout of the crate are written anew; the seed is fixed, so that they come out the same.
 
 A request to read: "R", the text's length in a byte, the text. A request to write: "W", the store's length in a byte, the byte that the store holds
 before the call, the eight bytes of an f64, low byte first.
@@ -22,7 +23,7 @@ FOLDER = os.path.join(os.path.dirname(os.path.abspath(__file__)), "..", "crates"
 LARGEST, LONGEST = 1_295_999_999, 32
 SECOND, MINUTE, DEGREE = 1_000, 60_000, 3_600_000
 INF, NAN = float("inf"), float("nan")
-BEFORE = (0xFF, 0x00, 0x30, 0x2D, 0x80)             # what stores hold before the call, in turn
+BEFORE = (0xFF, 0x01, 0x3A, 0x7F, 0x80)             # what stores hold before the call, in turn: nothing that a call leaves there
 BEYOND = "refused 29", "refused 29"                 # of a value and its negative
 PLAIN, LAST = b"+012 34 56.789", b"-359 59 59.999"
 
@@ -215,7 +216,7 @@ def look_alikes(cases):
 def drawn_texts(cases, rng):
     """Numbers at random, in range and out of it, then bytes at random of every length."""
     for _ in range(200):
-        degrees, minutes, seconds = (rng.randint(0, rng.choice(bounds)) for bounds in ((359, 999), (59, 99), (59, 99)))
+        degrees, minutes, seconds = (rng.randint(0, rng.choice(most)) for most in ((359, 999), (59, 99), (59, 99)))
         cases.read(text_of(rng.choice(b"+-"), degrees, minutes, seconds, rng.randint(0, 999)))
     for length in range(LONGEST + 1):
         cases.read(bytes(rng.choice(b"+-0123456789 .") for _ in range(length)))

@@ -5,7 +5,8 @@ A function with a `requires` that another crate calls has to be `pub`, and whoev
 
 1. A crate's name says its part. `plan_..` and `verify_..` are inner crates of planning, `run_..` of elimination, `job_..` of job, `offset_..` of offsets:
    each may be listed by the open crate of its part and by inner crates of the same part, and by nobody else; planning's `plan_..` do not list its
-   `verify_..`. `store_..` are inner crates that every part may list, and that list none of the parts'; so may the exported functions, which no crate lists.
+   `verify_..`. `store_..` are inner crates that every part may list, and that list none of the parts'; so may the crate of the exported functions. No crate
+   lists that one.
 2. An open function of a library for callers (any other crate with a src/lib.rt) has no `requires`, and has an `ensures`. Open are the functions
    marked `pub` in src/lib.rt and in its public modules, and those of private modules that a `pub use` names. An inner crate is not handed on
    by `pub use`. A `pub use` that the fence cannot follow is a breach: one of several names, under another name, or of nothing that it finds.
@@ -51,6 +52,8 @@ def part_of(name):
 def may_list(name, used):
     """Whether the fence lets a crate list another one."""
     word = word_of(used)
+    if used == EXPORTED:
+        return False
     if word is None:
         return word_of(name) != SHARED or used not in PART_OF.values()
     if word == SHARED:

@@ -131,6 +131,8 @@ def parse_row(words, i, check):
     words.named("=")
     line, right = words.line(), words.right_side(f"the right side of row {i}")
     check.row(line, i, entries, right)
+    if words.peek() not in ("row", "pivots", None):
+        raise BadText(words.line(), f"'{words.peek()}' follows the right side of row {i}, which is a number, or an offset as the 14 characters of +012 34 56.789")
     return Row(entries, right)
 
 

@@ -47,6 +47,10 @@ class Listing(unittest.TestCase):
         self.assertMay("dalumiveth", "store_clear", "offsets", "planning", "job", "numbers", "lists")
         self.assertMayNot("numbers", "store_clear")
 
+    def test_nobody_lists_the_exported_functions(self):
+        for name in ("program", "cases_planning", "job", "job_run", "store_lists", "numbers"):
+            self.assertMayNot(name, "dalumiveth")
+
     def test_nobody_else_lists_an_inner_crate(self):
         for name in ("dalumiveth", "numbers", "tally", "program", "cases_planning", "answers"):
             self.assertMayNot(name, "plan_call", "verify_call", "run_call", "job_run", "offset_text")

@@ -126,9 +126,9 @@ class OffsetsInText(unittest.TestCase):
     def test_bad_lines(self):
         for right, part in (("+360 00 00.000", "'+360 00 00.000' is no offset: 360 degrees are more than 359"), ("-012 60 00.000", "60 minutes are more"),
                             ("+012 34 60.000", "60 seconds are more"), ("-000 00 00.000", "'-000 00 00.000' is no offset: zero is written with plus"),
-                            ("+012 34 56,789", "'34' stands where 'row'"), ("+012\t34 56.789", "'34' stands where 'row'"),
-                            ("+012 34 56.7890", "'34' stands where 'row'"), ("+012  34 56.789", "'34' stands where 'row'"),
-                            ("012 34 56.789", "'34' stands where 'row'"), ("+012\n34 56.789", "'34' stands where 'row'")):
+                            ("+012 34 56,789", "'34' follows the right side"), ("+012\t34 56.789", "'34' follows the right side"),
+                            ("+012 34 56.7890", "'34' follows the right side"), ("+012  34 56.789", "'34' follows the right side"),
+                            ("012 34 56.789", "'34' follows the right side"), ("+012\n34 56.789", "'34' follows the right side")):
             line = 3 + right.count("\n")
             with self.assertRaises(job_text.BadText, msg=right) as caught:
                 job_text.parse(f"fields 2\n# two\nrow 1 1:1 = {right}\nrow 2 2:1 = 1\n")

@@ -33,7 +33,8 @@ def read_offset(text):
         text = text.encode("utf-8", "surrogatepass")  # a sign that is not ASCII becomes bytes that no offset has
     if not isinstance(text, (bytes, bytearray, memoryview)):
         raise TypeError(f"an offset's text is str or bytes, not {type(text).__name__}")
-    read = np.frombuffer(text, dtype=np.uint8) if len(text) else np.zeros(0, dtype=np.uint8)
+    text = bytes(text)  # in one piece: a memoryview may have gaps
+    read = np.frombuffer(text, dtype=np.uint8) if text else np.zeros(0, dtype=np.uint8)
     value = np.empty(1, dtype=np.float64)
     answer = np.zeros(4, dtype=USIZE)
     call("dalumiveth_read_offset", *lend(read, value, answer))

@@ -147,7 +147,8 @@ class Fixed(unittest.TestCase):
 
     def test_texts_and_bytes(self):
         expected = dalumiveth.Offset(-45296789, -45296789.0)
-        for text in ("-012 34 56.789", b"-012 34 56.789", bytearray(b"-012 34 56.789"), memoryview(b"-012 34 56.789")):
+        for text in ("-012 34 56.789", b"-012 34 56.789", bytearray(b"-012 34 56.789"), memoryview(b"-012 34 56.789"),
+                     memoryview(b"-.0.1.2. .3.4. .5.6...7.8.9.")[::2]):
             self.assertEqual(dalumiveth.read_offset(text), expected)
         for text in ("+012 34 56.78\uff19", "\u2212012 34 56.789", "+012\u00a034 56.789", "\ud800", "+012 34 56.789 ", " +012 34 56.789"):
             self.assertEqual(refusal_of(dalumiveth.read_offset, text), (28, 0), ascii(text))

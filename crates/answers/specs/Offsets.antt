@@ -12,7 +12,7 @@ unfoldable pub readAnswerOf : ReadAnswer → Answer (ℤ × Float)
 readAnswerOf (Whole w x) = granted (w, x)
 readAnswerOf OtherText = refused 28 0
 
--- "a float that is not finite or rounds beyond the largest is 29"; a store of another length is 6
+-- "a float that is not finite or rounds beyond the largest is 29"; a store of another length is 6; the step of both is 0
 unfoldable pub writeAnswerOf : WriteAnswer → Answer ℤ
 writeAnswerOf (Written w) = granted w
 writeAnswerOf Stores = refused 6 0

@@ -8,19 +8,20 @@ use native.Mathlib.Nat.{zero-add, div-div-eq-div-mul}
 use native.Mathlib.Omega.{arith}
 use lib.Dec.{eqb, ltb, leb}
 use lib.IntN.{ℤ, pos, negsuc, natAbs}
+use lib.Ieee.{Float}
 use lib.ListN.{length, getD}
 use lib.Seq.{ext-getD}
 use borrow.Author.Tests.{le-leb, lt-ltb, ne-eqb, eqb-true, ltb-true, leb-true, not-true}
 use Rattle.lists.specs.Sets.{run}
 use Rattle.lists.proofs.Members.{by-test, and-left, and-right, or-true-cases}
 use Rattle.lists.proofs.Places.{length-map-run, getD-map-run}
-use Rattle.foundation.specs.Answer.{granted, andThen}
+use Rattle.foundation.specs.Answer.{Answer, refused, granted, andThen}
 use Rattle.foundation.specs.Text.{ascii}
 use Rattle.foundation.specs.Offset.{largestOffset, negative, signed, signByte, twoDigits, threeDigits, textWith, textOf}
 use Rattle.foundation.specs.OffsetReading.{isDigit, form, mayStand, hasForm, digitAt, twoAt, threeAt, degrees, minutes, seconds, thousandths, inRange, sizeRead, minusRead, readable, readAs}
-use Rattle.foundation.specs.OffsetCall.{readOffset}
-use Rattle.foundation.specs.Claims.{ReadsTexts, OtherTexts}
-use Rattle.foundation.proofs.Stores.{not-granted}
+use Rattle.foundation.specs.OffsetCall.{floatOf, readOffset}
+use Rattle.foundation.specs.Claims.Offsets.{ReadsTexts, OtherTexts}
+use Rattle.foundation.proofs.Stores.{not-granted, same-granted}
 
 -- ---- signs and sizes
 
@@ -290,13 +291,30 @@ only-texts t w =
     (readable-text t e ∙ ap textOf same, rw size (readable-small t e))))
     (λ e. rw e (λ h. not-granted 28 0 h))
 
+-- what is read is that whole number and its f64
+number-read : (a : Answer ℤ) (w : ℤ) (x : Float) → andThen {B = ℤ × Float} a (λ v. granted (v, floatOf v)) ≡ granted (w, x) → (a ≡ granted w) × (x ≡ floatOf w)
+unfolding andThen
+number-read (refused number step) w x h = not-granted number step h
+number-read (granted v) w x h =
+    let both = same-granted (v, floatOf v) (w, x) h in
+    (ap (λ (p : ℤ × Float). granted (p .0)) both, sym (ap (λ (p : ℤ × Float). p .1) both) ∙ ap (λ (p : ℤ × Float). floatOf (p .0)) both)
+
 pub reads-texts : ReadsTexts
-unfolding ReadsTexts
-reads-texts t w = (only-texts t w, λ h. rw (h .0) (reads-back w (h .1)))
+unfolding ReadsTexts readOffset andThen
+reads-texts t w x = (
+  λ h.
+      let (reads, value) = number-read (readAs t) w x h in
+      let (is, small) = only-texts t w reads in
+      (is, small, value),
+  λ h. rw (h .0, reads-back w (h .1), h .2),
+)
 
 pub other-texts : OtherTexts
-unfolding OtherTexts readOffset readAs andThen
-other-texts t other =
-    by-test (readable t)
-    (λ e. absurd (other (signed (minusRead t) (sizeRead t)) (rw (size-of-signed (minusRead t) (sizeRead t)) (readable-small t e)) (readable-text t e)))
-    (λ e. rw e)
+unfolding OtherTexts ReadsTexts readOffset readAs andThen
+other-texts t = (
+  λ h w small is. not-granted 28 0 (sym h ∙ reads-texts t w (floatOf w) .1 (is, small, refl)),
+  λ other.
+      by-test (readable t)
+      (λ e. absurd (other (signed (minusRead t) (sizeRead t)) (rw (size-of-signed (minusRead t) (sizeRead t)) (readable-small t e)) (readable-text t e)))
+      (λ e. rw e),
+)

@@ -15,17 +15,16 @@ use lib.ListN.{length}
 use borrow.Author.Tests.{le-leb, lt-leb, leb-true, leb-false, ltb-true, ltb-false, eq-eqb, eqb-true}
 use Rattle.lists.proofs.Members.{by-test}
 use Rattle.lists.proofs.Places.{padded-full}
-use Rattle.foundation.specs.Answer.{Answer, refused, granted, refuseIf, andThen, resultStore}
+use Rattle.foundation.specs.Answer.{refused, granted, refuseIf, resultStore}
 use Rattle.foundation.specs.Numbers.{finite}
 use Rattle.foundation.specs.Text.{ascii}
 use Rattle.foundation.specs.Offset.{largestOffset, negative, signed, signByte, twoDigits, threeDigits, textWith, textOf}
-use Rattle.foundation.specs.OffsetReading.{readAs}
 use Rattle.foundation.specs.OffsetRounding.{nearestWhole, withinReach, roundedTo}
-use Rattle.foundation.specs.OffsetCall.{floatOf, readOffset, offsetBytes, writeOffset, writeLeaves}
-use Rattle.foundation.specs.Claims.{ReadsTexts, WithinHalf, OnlyNearest, BeyondLargest, FloatEqual, ZeroWithPlus, WrittenReads, ReadWrites}
+use Rattle.foundation.specs.OffsetCall.{floatOf, writeOffset, writeLeaves}
+use Rattle.foundation.specs.Claims.Offsets.{ReadsTexts, WithinHalf, OnlyNearest, BeyondLargest, FloatEqual, ZeroWithPlus, WrittenReads, ReadWrites}
 use Rattle.foundation.proofs.Nearest.{Near, nearest-near, nearest-whole, near-unique, under-limit, over-limit}
 use Rattle.foundation.proofs.Stores.{not-granted}
-use Rattle.foundation.proofs.OffsetTexts.{size-of-signed, own-sign, text-length, reads-back, reads-texts}
+use Rattle.foundation.proofs.OffsetTexts.{size-of-signed, own-sign, text-length, reads-texts}
 
 -- ---- the f64 of a whole number
 
@@ -204,30 +203,15 @@ unfolding ZeroWithPlus writeOffset refuseIf textOf textWith threeDigits twoDigit
 zero-with-plus x h = leaves-text 14 x (pos 0) refl h .1
 
 pub written-reads : WrittenReads
-unfolding WrittenReads readOffset andThen writeOffset refuseIf
+unfolding WrittenReads ReadsTexts writeOffset refuseIf
 written-reads room x w =
     by-test (eqb room 14)
-    (λ t.
-    rw t
-    (λ h.
-    let left = leaves-text room x w (eqb-true room 14 t) h .1 in
-    rw (left, reads-back w (rounds-small x w h))))
+    (λ t. rw t (λ h. reads-texts (writeLeaves room x) w (floatOf w) .1 (leaves-text room x w (eqb-true room 14 t) h .1, rounds-small x w h, refl)))
     (λ t. rw t (λ h. not-granted 6 0 h))
 
-same-granted : (p q : ℤ × Float) → granted p ≡ granted q → p ≡ q
-same-granted p q h = cc
-
 pub read-writes : ReadWrites
-unfolding ReadWrites ReadsTexts readOffset andThen
-read-writes text w x h = go (readAs text) refl h
-  where
-    go : (a : Answer ℤ) → readAs text ≡ a → andThen {B = ℤ × Float} a (λ v. granted (v, floatOf v)) ≡ granted (w, x)
-        → (writeOffset offsetBytes x ≡ granted w) × (writeLeaves offsetBytes x ≡ text)
-    go (refused number step) e h = not-granted number step h
-    go (granted v) e h =
-        let both = same-granted (v, floatOf v) (w, x) h in
-        let same : v ≡ w = ap (λ (p : ℤ × Float). p .0) both in
-        let value : floatOf v ≡ x = ap (λ (p : ℤ × Float). p .1) both in
-        let (is, size) = reads-texts text v .0 e in
-        let made = leaves-text 14 (floatOf v) v refl (float-rounds v size) in
-        rw (← same, ← value) (made .0, made .1 ∙ sym is)
+unfolding ReadWrites ReadsTexts
+read-writes text w x h =
+    let (is, small, value) = reads-texts text w x .0 h in
+    let made = leaves-text 14 (floatOf w) w refl (float-rounds w small) in
+    rw value (made .0, made .1 ∙ sym is)

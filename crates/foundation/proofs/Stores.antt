@@ -14,6 +14,10 @@ use Rattle.foundation.specs.RunCall.{Ran, runAnswer}
 pub not-granted : {A B : Type 0} {b : B} (number step : ℕ) → _≡_ {A = Answer B} (refused number step) (granted b) → A
 not-granted number step e = let z : _≡_ {A = ℕ} 0 1 = cc in absurd (omega arith)
 
+-- what is granted is one thing
+pub same-granted : {B : Type 0} (p q : B) → granted p ≡ granted q → p ≡ q
+same-granted p q e = cc
+
 -- a run that was answered with a refusal was refused
 pub refused-from : (a : Answer Ran) (number step : ℕ) → refused number step ≡ runAnswer a → a ≡ refused number step
 unfolding runAnswer andThen

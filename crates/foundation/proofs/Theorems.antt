@@ -13,7 +13,8 @@ use Rattle.foundation.specs.Plan.{Side, plan}
 use Rattle.foundation.specs.Subscripts.{kept}
 use Rattle.foundation.specs.RunCall.{Lending, allFinite, valueAt, rightAt}
 use Rattle.foundation.specs.Facts.{PlanFacts, Opens, sizesOf}
-use Rattle.foundation.specs.Claims.{FirstHalf, RunsOn, SlotsSuffice, MultipliersStay, ZeroOutside, LaidBack, OwnSlots, SlotsWithin, MetOnce, JobRoom, RunsAlike, ListedPivots, PivotsCounted, PlanAccepted, RoomEnough, SlotsEnough, PlannedRunsAlike, LargestRow, ListedRow, StoresOpen, FiniteGiven, FiniteThroughout, LargestAtEveryStep, PivotsReach, ListedStops, LegalLists, AnswerRoom, ReadsTexts, OtherTexts, WithinHalf, OnlyNearest, BeyondLargest, FloatEqual, ZeroWithPlus, WrittenReads, ReadWrites}
+use Rattle.foundation.specs.Claims.{FirstHalf, RunsOn, SlotsSuffice, MultipliersStay, ZeroOutside, LaidBack, OwnSlots, SlotsWithin, MetOnce, JobRoom, RunsAlike, ListedPivots, PivotsCounted, PlanAccepted, RoomEnough, SlotsEnough, PlannedRunsAlike, LargestRow, ListedRow, StoresOpen, FiniteGiven, FiniteThroughout, LargestAtEveryStep, PivotsReach, ListedStops, LegalLists, AnswerRoom}
+use Rattle.foundation.specs.Claims.Offsets.{ReadsTexts, OtherTexts, WithinHalf, OnlyNearest, BeyondLargest, FloatEqual, ZeroWithPlus, WrittenReads, ReadWrites}
 use Rattle.foundation.proofs.Passing.{passes-plannable, passes-entries}
 use Rattle.foundation.proofs.Steps.{list-none}
 use Rattle.foundation.proofs.PlanFacts.{plan-facts}

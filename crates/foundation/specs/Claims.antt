@@ -1,15 +1,14 @@
--- The claims about every elimination, free or float, about the slots, the rows met and the program's room, and about the texts of offsets: each one proposition that can be
--- read alone.
+-- The claims about every elimination, free or float, about the slots, the rows met and the program's room: each one proposition that can be read alone.
+-- Those about offsets in degrees, minutes and seconds stand in Claims/Offsets.
 -- "A pattern that can be planned" is one that passes 1 to 5: its `patternFault` is 0, whatever the largest n.
+pub mod Offsets
 use mathlib.Core.Bool.{Bool, true, false}
 use mathlib.Core.List.{List, _++_, map}
 use mathlib.Core.Logic.{_↔_}
 use mathlib.Core.Path.{_≡_}
-use Prim.Native.Nat.{ℕ, _+_, _-_, _*_, _%_, _≤_, _<_}
+use Prim.Native.Nat.{ℕ, _+_, _-_, _*_, _≤_, _<_}
 use lib.Dec.{eqb, ltb}
-use lib.IntN.{ℤ, pos, natAbs, _-ℤ_, _*ℤ_}
-use lib.Ieee.{Float, fin, binary64, up, down, lt, le, fits}
-use lib.Ieee.Exact.{HasValue}
+use lib.Ieee.{Float, lt, le}
 use lib.ListN.{length, getD, take, drop}
 use Rattle.lists.specs.Functions.{keep, chain, padded}
 use Rattle.lists.specs.Sets.{upto}
@@ -27,10 +26,6 @@ use Rattle.foundation.specs.PlanCall.{SideStores, PlanStores, LentPlan, 
 use Rattle.foundation.specs.RunCall.{Lending, lendingFits, allFinite, choiceFits, orderFits, valueAt, rightAt, Ran, ranWith, ran, legal, runAnswer, RunStores, runLeaves}
 use Rattle.foundation.specs.Job.{Job}
 use Rattle.foundation.specs.Printing.{jobRun, printed}
-use Rattle.foundation.specs.Text.{ascii}
-use Rattle.foundation.specs.Offset.{largestOffset, negative, signed, textOf}
-use Rattle.foundation.specs.OffsetReading.{readAs}
-use Rattle.foundation.specs.OffsetCall.{floatOf, offsetBytes, readOffset, writeOffset, writeLeaves}
 
 -- Demand 3, first half, "one claim about the whole list of steps, the empty list included": for every pattern that can be planned, every set of
 -- numbers at its places (of any kind A, of which only whether one is zero counts), and every list of steps of the free elimination, refused steps
@@ -387,60 +382,3 @@ LegalLists =
     → (before : Going)
     → reference (listed rows) (cut (k - 1)) (patternOf p) (valueAt p (w .values)) (rightAt (w .right)) ≡ going before
     → le leastPivot (magnitude ((before .square) (getD rows (k - 1) 0) k)) ≡ true))
-
--- ---- offsets in degrees, minutes and seconds (document 02, Ticket 11)
-
--- A text reads as w just where it is the text of w and w is "at most 1,295,999,999 in magnitude".
-unfoldable pub ReadsTexts : Type 0
-ReadsTexts = (text : List ℕ) (w : ℤ) → (readAs text ≡ granted w) ↔ ((text ≡ textOf w) × (natAbs w ≤ largestOffset))
-
--- "Any other text, minus zero included, is 28": one that is the text of no whole number of at most that magnitude.
-unfoldable pub OtherTexts : Type 0
-OtherTexts = (text : List ℕ) → ((w : ℤ) → natAbs w ≤ largestOffset → text ≡ textOf w → ⊥) → readOffset text ≡ refused 28 0
-
--- "the f64 equal to it": a 64-bit float, finite, with the number's sign (zero is +0) and its magnitude.
-unfoldable pub FloatEqual : Type 0
-FloatEqual = (w : ℤ) → natAbs w ≤ largestOffset → HasValue (floatOf w) (negative w) (natAbs w) 1 × (fits binary64 (floatOf w) ≡ true)
-
--- "The written value is within half a milliarcsecond of the float", "the even one at a half": w and the float are at most a half apart, where they are a half apart w is even, and w
--- is at most the largest in magnitude. The float `fin s m e` is the fraction of `signed s (m * up e)` and `down e`, so both sides are taken times twice `down e`.
-unfoldable pub WithinHalf : Type 0
-WithinHalf =
-    (s : Bool) (m : ℕ) (e w : ℤ)
-    → writeOffset offsetBytes (fin s m e) ≡ granted w
-    → (2 * natAbs (w *ℤ pos (down e) -ℤ signed s (m * up e)) ≤ down e)
-    × (2 * natAbs (w *ℤ pos (down e) -ℤ signed s (m * up e)) ≡ down e → natAbs w % 2 ≡ 0)
-    × (natAbs w ≤ largestOffset)
-
--- "the nearest whole milliarcsecond": no other whole number is at most a half from the float and, where it is a half away, even.
-unfoldable pub OnlyNearest : Type 0
-OnlyNearest =
-    (s : Bool) (m : ℕ) (e w other : ℤ)
-    → writeOffset offsetBytes (fin s m e) ≡ granted w
-    → 2 * natAbs (other *ℤ pos (down e) -ℤ signed s (m * up e)) ≤ down e
-    → (2 * natAbs (other *ℤ pos (down e) -ℤ signed s (m * up e)) ≡ down e → natAbs other % 2 ≡ 0)
-    → other ≡ w
-
--- "a float that is not finite or rounds beyond the largest is 29", and no other: a finite one is 29 from the largest and a half on, since the largest is odd, and goes to a whole
--- number below that.
-unfoldable pub BeyondLargest : Type 0
-BeyondLargest =
-    ((x : Float) → finite x ≡ false → writeOffset offsetBytes x ≡ refused 29 0)
-    × ((s : Bool) (m : ℕ) (e : ℤ)
-    → ((2 * largestOffset + 1) * down e ≤ 2 * (m * up e) → writeOffset offsetBytes (fin s m e) ≡ refused 29 0)
-    × (2 * (m * up e) < (2 * largestOffset + 1) * down e → (w : ℤ) × (writeOffset offsetBytes (fin s m e) ≡ granted w)))
-
--- "writes zero with plus": whatever float goes to zero, and whatever its sign.
-unfoldable pub ZeroWithPlus : Type 0
-ZeroWithPlus = (x : Float) → writeOffset offsetBytes x ≡ granted (pos 0) → writeLeaves offsetBytes x ≡ ascii "+000 00 00.000"
-
--- "what was written reads as that whole number": what writing left in its store reads as the number that it answered, with the f64 equal to it.
-unfoldable pub WrittenReads : Type 0
-WrittenReads = (room : ℕ) (x : Float) (w : ℤ) → writeOffset room x ≡ granted w → readOffset (writeLeaves room x) ≡ granted (w, floatOf w)
-
--- And writing the f64 that reading answered answers the same whole number and leaves the text that was read.
-unfoldable pub ReadWrites : Type 0
-ReadWrites =
-    (text : List ℕ) (w : ℤ) (x : Float)
-    → readOffset text ≡ granted (w, x)
-    → (writeOffset offsetBytes x ≡ granted w) × (writeLeaves offsetBytes x ≡ text)

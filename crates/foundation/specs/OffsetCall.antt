@@ -23,7 +23,7 @@ readOffset text = andThen (readAs text) (λ w. granted (w, floatOf w))
 unfoldable pub readInto : ℕ → List ℕ → Answer (ℤ × Float)
 readInto room text = refuseIf (not (eqb room 1)) 6 (readOffset text)
 
--- that store afterwards: the f64, or +0 throughout
+-- that store afterwards: the f64; after a refusal +0 (document 01: "Result stores are then zero throughout")
 unfoldable pub readLeaves : ℕ → List ℕ → List Float
 readLeaves room text = resultStore plusZero room (λ r. r .1 ∷ []) (readInto room text)
 
@@ -31,10 +31,11 @@ readLeaves room text = resultStore plusZero room (λ r. r .1 ∷ []) (readInto r
 abbrev pub offsetBytes : ℕ
 offsetBytes = 14
 
--- Writing into a store, by its length: any other than 14 is 6, step 0, judged before the float. What is granted is the whole number that is written.
+-- "Writing takes a finite f64 of milliarcseconds": into a store, by its length; any other than 14 is 6, step 0, judged before the float. What is granted is the whole number that
+-- is written.
 unfoldable pub writeOffset : ℕ → Float → Answer ℤ
 writeOffset room x = refuseIf (not (eqb room offsetBytes)) 6 (roundedTo x)
 
--- the store afterwards: the text, or zeros throughout
+-- the store afterwards: the text; after a refusal zeros (document 01: "Result stores are then zero throughout")
 unfoldable pub writeLeaves : ℕ → Float → List ℕ
 writeLeaves room x = resultStore 0 room textOf (writeOffset room x)

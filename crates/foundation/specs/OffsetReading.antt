@@ -55,10 +55,11 @@ thousandths text = threeAt text 11
 unfoldable pub inRange : List ℕ → Bool
 inRange text = ltb (degrees text) 360 && (ltb (minutes text) 60 && ltb (seconds text) 60)
 
--- the milliarcseconds, without their sign
+-- "whole milliarcseconds", without their sign
 unfoldable pub sizeRead : List ℕ → ℕ
 sizeRead text = 1000 * (60 * (60 * degrees text + minutes text) + seconds text) + thousandths text
 
+-- "sign": whether it is "-"
 unfoldable pub minusRead : List ℕ → Bool
 minusRead text = eqb (getD text 0 0) 45
 

@@ -8,7 +8,6 @@ use lib.ListN.{replicate}
 use Rattle.foundation.specs.Table.{Case, case, told, refusal, grant}
 use Rattle.foundation.specs.Text.{ascii}
 use Rattle.foundation.specs.Offset.{negative, textOf}
-use Rattle.foundation.specs.OffsetRounding.{roundedTo}
 use Rattle.foundation.specs.OffsetCall.{readOffset, readInto, readLeaves, writeOffset, writeLeaves}
 use Rattle.foundation.specs.Cases.Show.{flag, float, pattern, patterns, row}
 
@@ -19,9 +18,9 @@ shown w = flag (negative w) ∷ natAbs w ∷ []
 abbrev pub whole : ℕ → ℕ → List (List ℕ)
 whole minus size = grant ((minus ∷ size ∷ []) ∷ [])
 
--- what the float of a bit pattern rounds to
+-- what writing the float of a bit pattern answers, of a store of 14 places
 abbrev pub rounds : ℕ → List (List ℕ)
-rounds bits = told (λ w. shown w ∷ []) (roundedTo (float bits))
+rounds bits = told (λ w. shown w ∷ []) (writeOffset 14 (float bits))
 
 -- what a text reads as: the whole number, and the bits of its f64
 abbrev pub shownRead : (ℤ × Float) → List (List ℕ)
@@ -142,6 +141,10 @@ readingCases =
     ∷ case (reads "+999 99 99.999") (refusal 28 0)
     ∷ case (reads "+987 65 43.210") (refusal 28 0)
     ∷ case (reads "+000 60 60.000") (refusal 28 0)
+    ∷ case (reads "+012 61 00.000") (refusal 28 0)
+    ∷ case (reads "+012 99 59.999") (refusal 28 0)
+    ∷ case (reads "+012 34 61.000") (refusal 28 0)
+    ∷ case (reads "+012 59 99.999") (refusal 28 0)
     -- "14 bytes"
     ∷ case (reads "") (refusal 28 0)
     ∷ case (reads "+") (refusal 28 0)
@@ -165,7 +168,7 @@ readingCases =
     ∷ case (reads "+012 34 56 789") (refusal 28 0)
     ∷ case (reads "+012 34 560789") (refusal 28 0)
     ∷ case (reads "+012.34 56.789") (refusal 28 0)
-    -- digits: the bytes before "0" and behind "9", letters, a sign, a space, one or two of them at each place
+    -- digits: the bytes before "0" and behind "9", letters, a sign, a space, one to three of them at each place
     ∷ case (reads "+0a2 34 56.789") (refusal 28 0)
     ∷ case (reads "+/12 34 56.789") (refusal 28 0)
     ∷ case (reads "+0:2 34 56.789") (refusal 28 0)

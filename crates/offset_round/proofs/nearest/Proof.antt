@@ -5,7 +5,6 @@ use native.Mathlib.Omega.{arith}
 use lib.Ieee.{Float}
 use lib.Ieee.Positive.{num, den}
 use borrow.Author.Needs.{needs}
-use Rattle.offset_round.specs.Sizes.{Small}
 use Rattle.offset_round.proofs.Sizes.{above-minus-one, below-word, part-of, still-small, counts, half-value, goes-down, goes-up, goes-even}
 use Rattle.offset_round.proofs.Sizes.{nearest-small}
 use Rattle.offset_round.proofs.nearest.Statement.{statement}

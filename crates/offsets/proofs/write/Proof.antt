@@ -16,10 +16,6 @@ put-bytes-requires c κs = search needs
 same-length : tie.Need-same-length
 same-length c = search needs
 
-returns : tie.Need-returns
-unfolding writeAnswerOf
-returns c = other-length _ _ _ (c .before .before .before .before .before .if1 .taken) (c .before .before .put-bytes .ensures)
-
 rounded-requires : tie.Need-rounded-requires
 rounded-requires c κs = search needs
 
@@ -72,6 +68,11 @@ returns-3 c =
     let at-rounded = at-enum-told .before .before in
     beyond _ _ _ (at-rounded .before .if1 .left) ((rw (at-enum-told .enum-told .given .1) at (at-rounded .rounded .ensures)) .0)
     (c .before .before .put-bytes3 .ensures)
+
+-- behind the others, so that of a wrong test of the length the log first shows what it lets pass
+returns : tie.Need-returns
+unfolding writeAnswerOf
+returns c = other-length _ _ _ (c .before .before .before .before .before .if1 .taken) (c .before .before .put-bytes .ensures)
 
 pub write-spec : {M : Type 1} → statement M
 write-spec =

@@ -18,11 +18,6 @@ same-length c = search needs
 same-length-2 : tie.Need-same-length-2
 same-length-2 c = search needs
 
-returns : tie.Need-returns
-returns c =
-    let at-fill-floats = c .before .before .before .before .before .before in
-    read-without-place _ _ _ _ _ _ (at-fill-floats .before .before .if1 .taken) (at-fill-floats .fill-floats .ensures) (c .before .before .put-refusal .ensures)
-
 read-requires : tie.Need-read-requires
 read-requires c κs = search needs
 
@@ -74,6 +69,12 @@ returns-3 c =
     let at-read = at-enum-told .before .before in
     read-refused _ _ _ _ _ _ (at-read .before .if1 .left) (rw (at-enum-told .enum-told .given .1) at (at-read .read .ensures))
     (c .before .before .before .before .before .before .fill-floats3 .ensures) (c .before .before .put-refusal2 .ensures)
+
+-- behind the others, so that of a wrong test of the length the log first shows what it lets pass
+returns : tie.Need-returns
+returns c =
+    let at-fill-floats = c .before .before .before .before .before .before in
+    read-without-place _ _ _ _ _ _ (at-fill-floats .before .before .if1 .taken) (at-fill-floats .fill-floats .ensures) (c .before .before .put-refusal .ensures)
 
 pub dalumiveth-read-offset-spec : {M : Type 1} → statement M
 dalumiveth-read-offset-spec =

@@ -3,6 +3,10 @@ use Rattle.numbers.proofs.Signed.{below, not-below}
 use Rattle.numbers.proofs.signs.size_of.Statement.{statement}
 use Rattle.numbers.proofs.signs.size_of.Tie as tie
 
+-- before the sums' needs, so that of a wrong sum the log first shows what it gives
+returns : tie.Need-returns
+returns c = below (c .before .args .whole) (c .before .fits .whole) (c .if1 .taken) .size-told
+
 add-result : tie.Need-add-result
 add-result c = below (c .before .args .whole) (c .before .fits .whole) (c .if1 .taken) .raised-fits
 
@@ -14,9 +18,6 @@ cast-result c = below (c .before .args .whole) (c .before .fits .whole) (c .if1 
 
 add-result-2 : tie.Need-add-result-2
 add-result-2 c = below (c .before .args .whole) (c .before .fits .whole) (c .if1 .taken) .sum-fits
-
-returns : tie.Need-returns
-returns c = below (c .before .args .whole) (c .before .fits .whole) (c .if1 .taken) .size-told
 
 cast-result-2 : tie.Need-cast-result-2
 cast-result-2 c = not-below (c .before .args .whole) (c .before .fits .whole) (c .if1 .left) .0
