@@ -78,8 +78,9 @@ int main()
     good = good && dlm_run_largest(&pattern, &plan, &system, dlm_whole(), &factor, &work).refusal == DLM_NONE;
     for (size_t i = 0; i < 4; i++)
         good = good && factor.x.at[i] == 1;
-    uint32_t tally = 0;
-    good = good && dlm_tally_add(&tally, factor.updates).refusal == DLM_NONE && tally == 3;
+    dlm_tally tally = {{0}};
+    good = good && dlm_tally_add(&tally, 16, factor.updates).refusal == DLM_NONE && tally.counters[15] == 3 && tally.counters[0] == 0;
+    good = good && dlm_tally_add(&tally, 17, 1).refusal == DLM_NO_MEMBER && dlm_tally_add(&tally, 16, UINT32_MAX).refusal == DLM_TALLY_FULL;
     good = good && offset_returns(-45296789, "-012 34 56.789") && dlm_read_offset("+360 00 00.000", DLM_OFFSET_BYTES).refusal == DLM_OFFSET_TEXT;
     std::printf("%s\n", good ? "the four fields and an offset from C++: right" : "the four fields and an offset from C++: wrong");
     return good ? 0 : 1;

@@ -1,6 +1,6 @@
 ! Fixed calls from Fortran: what the example does not show.
 program from_fortran
-  use, intrinsic :: iso_c_binding, only: c_int8_t
+  use, intrinsic :: iso_c_binding, only: c_int8_t, c_int32_t
   use dalumiveth
   implicit none
   real(dlm_real), parameter :: values(9) = [2, 1, 1, 1, 4, 4, 2, 1, 4]
@@ -146,13 +146,48 @@ contains
 
   ! Sums above 2,147,483,647 are where a signed number of 32 bits ends.
   subroutine test_tally()
-    integer(dlm_size) :: tally
-    tally = 2147483640_dlm_size
-    call expect(is(dlm_tally_add(tally, 20_dlm_size), 0, 0) .and. tally == 2147483660_dlm_size, "past 31 bits")
-    call expect(is(dlm_tally_add(tally, 2147483635_dlm_size), 0, 0) .and. tally == 4294967295_dlm_size, "the largest sum")
-    call expect(is(dlm_tally_add(tally, 1_dlm_size), 19, 0) .and. tally == 4294967295_dlm_size, "one more is 19")
-    tally = 4294967296_dlm_size
-    call expect(is(dlm_tally_add(tally, 0_dlm_size), 19, 0), "no tally has this sum")
+    type(dlm_tally) :: tally, before
+    integer(dlm_size) :: member
+    integer(dlm_size), parameter :: largest = 4294967295_dlm_size
+    do member = 1, dlm_members
+      before = tally
+      before%counters(member) = 2147483640_dlm_size
+      call expect(is(dlm_tally_add(tally, member, 2147483640_dlm_size), 0, 0), "the updates of a member")
+      call expect(all(tally%counters == before%counters), "its counter alone has them")
+    end do
+    call expect(is(dlm_tally_add(tally, 7_dlm_size, 20_dlm_size), 0, 0), "the updates of member 7 once more")
+    call expect(tally%counters(7) == 2147483660_dlm_size, "past 31 bits")
+    call expect(is(dlm_tally_add(tally, 7_dlm_size, 2147483635_dlm_size), 0, 0), "up to the largest sum")
+    call expect(tally%counters(7) == largest, "the largest sum")
+    before = tally
+    call expect(is(dlm_tally_add(tally, 7_dlm_size, 1_dlm_size), 19, 0), "one more is 19")
+    call expect(is(dlm_tally_add(tally, 8_dlm_size, -1_dlm_size), 19, 0), "updates below zero are past 63 bits")
+    call expect(all(tally%counters == before%counters), "19 leaves all sixteen")
+    call expect(is(dlm_tally_add(tally, 6_dlm_size, 1_dlm_size), 0, 0), "its neighbour has room")
+    call expect(tally%counters(6) == 2147483641_dlm_size, "and gets its update")
+    call test_no_members(tally)
+  end subroutine
+
+  subroutine test_no_members(tally)
+    type(dlm_tally), intent(inout) :: tally
+    type(dlm_tally) :: before
+    integer(dlm_size), parameter :: others(7) = [integer(dlm_size) :: 0, 17, -1, 257, 65552, 4294967297_dlm_size, huge(0_dlm_size)]
+    integer(dlm_size) :: number, answer(3)
+    integer(c_int32_t) :: counters(17)
+    integer :: which
+    before = tally
+    do which = 1, size(others)
+      call expect(is(dlm_tally_add(tally, others(which), 1_dlm_size), 27, 0), "no such member")
+      call expect(is(dlm_tally_add(tally, others(which), -1_dlm_size), 27, 0), "27 before 19")
+      call expect(all(tally%counters == before%counters), "27 leaves all sixteen")
+    end do
+    tally%counters(3) = 4294967296_dlm_size
+    call expect(is(dlm_tally_add(tally, 3_dlm_size, 0_dlm_size), 19, 0), "no tally has this sum")
+    call expect(is(dlm_tally_add(tally, 4_dlm_size, 0_dlm_size), 0, 0), "its neighbour has its own")
+    call expect(tally%counters(3) == 4294967296_dlm_size, "and leaves it alone")
+    counters = 5
+    number = dalumiveth_tally_add(counters, 17_dlm_size, 1_dlm_size, 1_dlm_size, answer, 3_dlm_size)
+    call expect(number == 6 .and. all(answer == [6, 0, 0]) .and. all(counters == 5), "seventeen counters are 6")
   end subroutine
 
   subroutine test_job()

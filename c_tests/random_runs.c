@@ -12,7 +12,7 @@
 #include <string.h>
 
 typedef struct score {
-    size_t seen[20]; /* answers by number */
+    size_t seen[15]; /* answers by number */
     size_t planned;
     size_t finished[4]; /* by the largest entry and by list, whole and cut */
     size_t printed;     /* jobs that print a solution */
@@ -131,18 +131,6 @@ static void try_run(trial *t, const plain_plan *plain)
     total.by_limit[t->listed] += expected.refusal == DLM_NO_PIVOT && run.by_limit;
 }
 
-/* A tally with any sum and any updates, often near its limit. */
-static void try_tally(void)
-{
-    uint32_t sum = draw(2) == 0 ? (uint32_t)draw_bits() : UINT32_MAX - (uint32_t)draw(3);
-    size_t shift = draw(64);
-    size_t updates = draw(3) == 0 ? draw(4) : (size_t)draw_bits() >> shift;
-    uint32_t tally = sum;
-    int full = updates > UINT32_MAX - sum;
-    check_answer("tally", dlm_tally_add(&tally, updates), plain_answer(full ? 19 : 0, 0));
-    check_stores("tally", tally == (full ? sum : sum + (uint32_t)updates) ? NULL : "another sum");
-}
-
 /* The system as a job: what is printed, and zeros behind it. */
 static void try_job(const trial *t, const plain_plan *plain)
 {
@@ -174,7 +162,6 @@ static void try_calls(trial *t)
     spoil_run(t);
     try_verify(t, &plain);
     try_run(t, &plain);
-    try_tally();
     free_trial(t);
 }
 
@@ -195,8 +182,8 @@ static int all_seen(void)
 {
     size_t number;
     int all = total.finished[0] > 0 && total.finished[1] > 0 && total.finished[2] > 0 && total.finished[3] > 0;
-    for (number = 0; number < 20; number++)
-        if ((number < 15 || number > 18) && total.seen[number] == 0)
+    for (number = 0; number < 15; number++)
+        if (total.seen[number] == 0)
             all = 0;
     return all && total.by_limit[0] >= LIMIT_RUNS && total.by_limit[1] >= LIMIT_RUNS && total.passed_over >= LIMIT_RUNS;
 }
@@ -211,9 +198,8 @@ static void print_score(unsigned long long seed, size_t systems)
     printf("13 for the limit alone: by the largest entry %zu, by list %zu; finished past fainter entries: %zu\n", total.by_limit[0],
            total.by_limit[1], total.passed_over);
     printf("answers by number:");
-    for (number = 0; number < 20; number++)
-        if (number < 15 || number > 18)
-            printf(" %zu: %zu%s", number, total.seen[number], number < 19 ? "," : "\n");
+    for (number = 0; number < 15; number++)
+        printf(" %zu: %zu%s", number, total.seen[number], number < 14 ? "," : "\n");
 }
 
 int main(int count, char **words)

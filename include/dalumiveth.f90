@@ -6,7 +6,8 @@
 !   Kinds      Numbers are integer(dlm_size) (C's size_t; every legal one is small), reals are real(dlm_real) (C's double).
 !   Stores     Allocatable. The caller allocates those of the pattern; dlm_make_plan (also one that refuses) and the runs give the others
 !              the lengths that they need. A run wants a plan that dlm_make_plan has seen.
-!   Refusals   answer%refusal is 0, or the number of a refusal: then all results are zero, and dlm_sentence has its sentence.
+!   Refusals   answer%refusal is 0, or the number of a refusal: then all results are zero, and dlm_sentence has its sentence. A tally
+!              then stays as it was.
 !   Proved     The functions dalumiveth_*, which the library exports, for all inputs. The procedures dlm_* of this module put types
 !              around them; they are not proved.
 !
@@ -24,6 +25,7 @@ module dalumiveth
   public :: dalumiveth_read_offset, dalumiveth_write_offset
 
   integer, parameter, public :: dlm_size = c_size_t, dlm_real = c_double
+  integer, parameter, public :: dlm_members = 16                                  ! of a tally: their numbers are 1 to 16
   integer, parameter, public :: dlm_offset_bytes = 14                             ! of an offset's text
   integer(dlm_size), parameter, public :: dlm_most_offset = 1295999999_dlm_size   ! milliarcseconds: +359 59 59.999
   integer(dlm_size), parameter :: most_rows = 1024
@@ -60,6 +62,11 @@ module dalumiveth
   type, public :: dlm_answer
     integer(dlm_size) :: refusal = 0                   ! 0: none
     integer(dlm_size) :: step = 0                      ! with 7, 8, 13 and 14
+  end type
+
+  ! A tally that stays with the caller: a sum of updates for each member, 0 to 4,294,967,295.
+  type, public :: dlm_tally
+    integer(dlm_size) :: counters(dlm_members) = 0     ! member m's is counters(m)
   end type
 
   ! An offset, read or written: whole milliarcseconds.
@@ -128,11 +135,11 @@ module dalumiveth
       integer(c_size_t) :: number
     end function
 
-    ! `sum` has the bits of an unsigned number of 32 bits; answer(3) is the sum afterwards.
-    function dalumiveth_tally_add(sum, updates, answer, answer_length) result(number) bind(c)
+    ! `counters` has 16 places, else 6, each with the bits of an unsigned number of 32 bits; answer(3) is the member's new sum.
+    function dalumiveth_tally_add(counters, counters_length, member, updates, answer, answer_length) result(number) bind(c)
       import :: c_size_t, c_int32_t
-      integer(c_int32_t), value :: sum
-      integer(c_size_t), value :: updates, answer_length
+      integer(c_size_t), value :: counters_length, member, updates, answer_length
+      integer(c_int32_t), intent(inout) :: counters(*)
       integer(c_size_t), intent(inout) :: answer(*)
       integer(c_size_t) :: number
     end function
@@ -268,21 +275,24 @@ contains
     answer = run_by(1_dlm_size, pattern, plan, values, right, rows, factor, work, steps)
   end function
 
-  ! Adds the updates of a finished run to a tally of 0 to 4,294,967,295 that stays with the caller. 19: the tally keeps its sum. A tally
-  ! out of that range, which no call leaves, counts as full.
-  function dlm_tally_add(tally, updates) result(answer)
-    integer(dlm_size), intent(inout) :: tally
-    integer(dlm_size), intent(in) :: updates
+  ! Adds the updates of a finished run to the sum of its member, 1 to 16. 27: there is no such member; 19: its sum would pass the largest. The
+  ! tally then stays as it was. A sum out of the range 0 to 4,294,967,295, which no call leaves, counts as full.
+  function dlm_tally_add(tally, member, updates) result(answer)
+    type(dlm_tally), intent(inout) :: tally
+    integer(dlm_size), intent(in) :: member, updates
     type(dlm_answer) :: answer
     integer(dlm_size), parameter :: largest = 4294967295_dlm_size, half = 2147483648_dlm_size
     integer(dlm_size) :: numbers(3), number
-    if (tally < 0 .or. tally > largest) then
+    integer(c_int32_t) :: bits(dlm_members)
+    bits = int(modulo(modulo(tally%counters, 2 * half) + half, 2 * half) - half, c_int32_t)
+    number = dalumiveth_tally_add(bits, int(dlm_members, dlm_size), member, updates, numbers, 3_dlm_size)
+    answer = dlm_answer(number, numbers(2))
+    if (number /= 0) return
+    if (tally%counters(member) < 0 .or. tally%counters(member) > largest) then
       answer = dlm_answer(19, 0)
       return
     end if
-    number = dalumiveth_tally_add(int(modulo(tally + half, 2 * half) - half, c_int32_t), updates, numbers, 3_dlm_size)
-    answer = dlm_answer(number, numbers(2))
-    tally = numbers(3)
+    tally%counters(member) = numbers(3)
   end function
 
   ! Reads an offset such as +012 34 56.789. Every character counts, blanks behind it too: a longer variable is passed as trim(text).
@@ -325,7 +335,7 @@ contains
     case (3); sentence = "a column is outside 1 to n"
     case (4); sentence = "the columns of a row do not ascend strictly"
     case (5); sentence = "a row lacks its diagonal"
-    case (6); sentence = "a starts store of the plan, a work store, or the store for a job's text or for an offset has a &
+    case (6); sentence = "a starts store of the plan, a work store, or the store for a job's text, a tally or an offset has a &
         &wrong length"
     case (7); sentence = "an L subscript does not fit into its store"
     case (8); sentence = "a U subscript does not fit into its store"
@@ -340,7 +350,8 @@ contains
     case (16); sentence = "job: the bytes end inside or before a command"
     case (17); sentence = "job: bytes follow Z"
     case (18); sentence = "job: it is over 16,384 bytes"
-    case (19); sentence = "the tally's sum would pass 4,294,967,295; it keeps its old sum"
+    case (19); sentence = "the member's sum in the tally would pass 4,294,967,295; the tally stays as it was"
+    case (27); sentence = "the member number is outside 1 to 16; the tally stays as it was"
     case (28); sentence = "the text is not an offset such as +012 34 56.789 (14 bytes, below 360 degrees), or it is minus zero"
     case (29); sentence = "the number of milliarcseconds is not finite or rounds beyond the largest, 1,295,999,999"
     case default; sentence = "no refusal has this number"

@@ -10,7 +10,8 @@
  *              gets an answer, a result or a refusal with its number. Inputs are never changed. In the functions dlm_* a NULL pointer
  *              is a store without places, whatever its length says.
  *   Refusals   After a refusal every result store is zero throughout. Work stores are zero after every call. A result store that is
- *              longer than needed has zeros behind the result; where one length is given (a job's text, an offset), another is 6.
+ *              longer than needed has zeros behind the result; where one length is given (a job's text, an offset), another is 6. A tally is
+ *              no result store: a refusal leaves it as it was.
  *   Proved     The functions dalumiveth_*, which the library exports, are proved for all inputs: each number of the answer and each store
  *              afterwards, bit for bit; that planned slots suffice for every choice of rows; that every call ends. Their contracts
  *              speak of stores that are valid and do not overlap: no proof sees what a program in C lends.
@@ -49,6 +50,7 @@ typedef char dlm_size_t_has_64_bits[sizeof(size_t) == 8 ? 1 : -1];
 #define DLM_MOST_ENTRIES ((size_t)16384)  /* the largest number of entries */
 #define DLM_MOST_JOB ((size_t)16384)      /* bytes of the longest job */
 #define DLM_MOST_PRINTED ((size_t)8192)   /* bytes that hold the answer to any job */
+#define DLM_MEMBERS ((size_t)16)          /* members of a tally: their numbers are 1 to 16 */
 #define DLM_OFFSET_BYTES ((size_t)14)     /* bytes of an offset's text */
 #define DLM_MOST_OFFSET INT64_C(1295999999)  /* the largest offset in milliarcseconds: +359 59 59.999 */
 
@@ -62,7 +64,7 @@ typedef enum dlm_refusal {
     DLM_COLUMN = 3,         /* a column is outside 1 to n */
     DLM_ORDER = 4,          /* the columns of a row do not ascend strictly */
     DLM_DIAGONAL = 5,       /* a row lacks its diagonal */
-    DLM_STORES = 6,         /* a starts store of the plan, a work store, or the store for a job's text or for an offset has another length
+    DLM_STORES = 6,         /* a starts store of the plan, a work store, or the store for a job's text, a tally or an offset has another length
                                than the one given with it below */
     DLM_LOWER_ROOM = 7,     /* an L subscript does not fit; the step */
     DLM_UPPER_ROOM = 8,     /* a U subscript does not fit; the step */
@@ -76,7 +78,8 @@ typedef enum dlm_refusal {
     DLM_JOB_ENDS = 16,      /* job: the bytes end inside or before a command */
     DLM_JOB_GOES_ON = 17,   /* job: bytes follow Z */
     DLM_JOB_TOO_LONG = 18,  /* job: it is over 16,384 bytes */
-    DLM_TALLY_FULL = 19,    /* the tally's sum would pass 4,294,967,295; the tally keeps its old sum */
+    DLM_TALLY_FULL = 19,    /* the member's sum in the tally would pass 4,294,967,295; the tally stays as it was */
+    DLM_NO_MEMBER = 27,     /* the member number is outside 1 to 16; the tally stays as it was */
     DLM_OFFSET_TEXT = 28,   /* the text is not an offset such as +012 34 56.789 (14 bytes, below 360 degrees), or it is minus zero */
     DLM_OFFSET_BEYOND = 29  /* the number of milliarcseconds is not finite or rounds beyond the largest, 1,295,999,999 */
 } dlm_refusal;
@@ -91,7 +94,7 @@ static inline const char *dlm_sentence(size_t number)
     case 3: return "a column is outside 1 to n";
     case 4: return "the columns of a row do not ascend strictly";
     case 5: return "a row lacks its diagonal";
-    case 6: return "a starts store of the plan, a work store, or the store for a job's text or for an offset has a wrong length";
+    case 6: return "a starts store of the plan, a work store, or the store for a job's text, a tally or an offset has a wrong length";
     case 7: return "an L subscript does not fit into its store";
     case 8: return "a U subscript does not fit into its store";
     case 9: return "the lent plan is not this pattern's: some count, start or used subscript differs";
@@ -104,7 +107,8 @@ static inline const char *dlm_sentence(size_t number)
     case 16: return "job: the bytes end inside or before a command";
     case 17: return "job: bytes follow Z";
     case 18: return "job: it is over 16,384 bytes";
-    case 19: return "the tally's sum would pass 4,294,967,295; it keeps its old sum";
+    case 19: return "the member's sum in the tally would pass 4,294,967,295; the tally stays as it was";
+    case 27: return "the member number is outside 1 to 16; the tally stays as it was";
     case 28: return "the text is not an offset such as +012 34 56.789 (14 bytes, below 360 degrees), or it is minus zero";
     case 29: return "the number of milliarcseconds is not finite or rounds beyond the largest, 1,295,999,999";
     default: return "no refusal has this number";
@@ -254,8 +258,10 @@ size_t dalumiveth_run(size_t most, size_t n, const size_t *starts, size_t starts
                       size_t *spare, size_t spare_length, double *copy, size_t copy_length, double *dense, size_t dense_length,
                       size_t *answer, size_t answer_length);
 
-/* answer: number (0 or 19), step 0, and the sum that the tally has afterwards (19: the old one). */
-size_t dalumiveth_tally_add(uint32_t sum, size_t updates, size_t *answer, size_t answer_length);
+/* counters: 16 places (DLM_MEMBERS), member 1's first: the updates are added to the member's, the others hold what they held. answer: number (0,
+   6, 27 or 19), step 0, and the member's new sum. A `counters` of another length is 6, whatever the member is; a member number outside 1 to
+   16 is 27, whatever the updates are. After a refusal all counters are as they were: the tally is no result store. */
+size_t dalumiveth_tally_add(uint32_t *counters, size_t counters_length, size_t member, size_t updates, size_t *answer, size_t answer_length);
 
 /* out: 8,192 places (DLM_MOST_PRINTED), room for every answer (proved): the bytes that are printed for the job, zeros behind. answer: number (0 or
    6), step 0, and how many bytes are printed. An `out` of another length is 6 and all zeros. What is wrong with the job is printed, and is
@@ -509,12 +515,18 @@ static inline dlm_answer dlm_run_listed(const dlm_pattern *pattern, const dlm_pl
     return dlm_run_by(1, pattern, plan, system, rows, rows_length, extent, factor, work);
 }
 
-/* Adds the updates of a finished run to a tally that stays with the caller; an empty one is 0. Refuses with 19: the tally keeps its sum. */
-static inline dlm_answer dlm_tally_add(uint32_t *tally, size_t updates)
+/* A tally that stays with the caller: a sum of updates for each member, member m's at place m-1. An empty one has zeros: dlm_tally tally = {{0}}; */
+typedef struct dlm_tally {
+    uint32_t counters[16];
+} dlm_tally;
+
+/* Adds the updates of a finished run to the sum of its member, 1 to 16. Refuses with 27 where there is no such member, and with 19 where its
+   sum would pass the largest: the tally stays as it was. A NULL is a store without places (6). */
+static inline dlm_answer dlm_tally_add(dlm_tally *tally, size_t member, size_t updates)
 {
+    uint32_t nowhere = 0;
     size_t answer[3] = {0};
-    dalumiveth_tally_add(*tally, updates, answer, 3);
-    *tally = (uint32_t)answer[2];
+    dalumiveth_tally_add(tally != NULL ? tally->counters : &nowhere, tally != NULL ? DLM_MEMBERS : 0, member, updates, answer, 3);
     return dlm_answer_in(answer);
 }
 

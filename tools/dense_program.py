@@ -1,7 +1,7 @@
 """The dense program of different authorship that document 01 asks for ("other cases are executed and compared"), as the tools that write the cases ask it.
 
-It is a folder with now.py, which knows whole calls by documents 01 and 02, tickets.py, which reads and writes offsets (document 02, ticket 11), and what these
-import. LANDED says which requests of document 02 have landed; `Dense(FOLDER, share_end=False)` answers as if ticket 5 had not, `Dense(FOLDER, faint=False)` as if
+It is a folder with now.py, which knows whole calls by documents 01 and 02, tickets.py, which reads and writes offsets and adds to a tally (document 02, tickets 11 and
+10), and what these import. LANDED says which requests of document 02 have landed; `Dense(FOLDER, share_end=False)` answers as if ticket 5 had not, `Dense(FOLDER, faint=False)` as if
 ticket 14 had not, so that the cases can show where a request's rule makes a difference.
 """
 import collections
@@ -61,6 +61,12 @@ class Dense:
 
     def report(self, job):
         return self.now.report(job, self.rules)
+
+    # ---- the tally
+
+    def tally_add(self, counters, member, updates):
+        """The answer to a call on sixteen counters, and the counters afterwards."""
+        return Called(*self.tickets.tally_member(counters, member, updates))
 
     # ---- offsets
 

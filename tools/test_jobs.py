@@ -229,18 +229,18 @@ class Answers(unittest.TestCase):
     def test_sentences_of_offsets(self):
         """The header's words."""
         header = dict(re.findall('case ([0-9]+): return "(.*)";', contents(os.path.join(HERE, "..", "include", "dalumiveth.h")).decode()))
-        for number in (28, 29):
+        for number in (19, 27, 28, 29):
             said = header[str(number)]
             self.assertEqual(job_answer.SENTENCES[number], said[0].upper() + said[1:] + ".")
 
     def test_every_refusal_has_its_sentence(self):
-        self.assertEqual(sorted(job_answer.SENTENCES), [*range(1, 20), 28, 29])
+        self.assertEqual(sorted(job_answer.SENTENCES), [*range(1, 20), 27, 28, 29])
         for number in job_answer.SENTENCES:
             step = 17 if number in (7, 8, 13, 14) else 0
             said, finished = job_answer.explain(f"refused {number} {step}\n")
             self.assertFalse(finished)
             self.assertTrue(said.startswith(f"refused, number {number}" + (", step 17\n" if step else "\n")), said)
-            self.assertEqual(said.count("\n"), 3 if number in (2, 6, 9, 19, 28, 29) else 2)
+            self.assertEqual(said.count("\n"), 3 if number in (2, 6, 9, 19, 27, 28, 29) else 2)
             self.assertEqual("17" in said.splitlines()[1], bool(step))
             self.assertNotIn("{", said)
         self.assertIn("has an entry of magnitude at least 2^-1022 in column 17", job_answer.explain("refused 13 17\n")[0])

@@ -31,7 +31,7 @@ _PARAMETERS = {
     "dalumiveth_plan": _PATTERN + _STORES + _WORK + _ANSWER,
     "dalumiveth_verify": _PATTERN + _COUNTS + _STORES + _WORK + _ANSWER,
     "dalumiveth_run": _PATTERN + _COUNTS + _STORES + _SYSTEM + _ROWS + _EXTENT + _RESULTS + _RUN_WORK + _ANSWER,
-    "dalumiveth_tally_add": [ctypes.c_uint32] + _NUMBER + _ANSWER,
+    "dalumiveth_tally_add": _SLICE + 2 * _NUMBER + _ANSWER,
     "dalumiveth_job": 2 * _SLICE + _ANSWER,
     "dalumiveth_read_offset": 2 * _SLICE + _ANSWER,
     "dalumiveth_write_offset": _REAL + _SLICE + _ANSWER,

@@ -159,7 +159,7 @@ class Factors(unittest.TestCase):
         self.assertEqual(self.factor.nnz, counts.l_slots + counts.u_slots + self.n)
         self.assertEqual(self.factor.shape, (self.n, self.n))
         self.assertGreater(self.factor.updates, 0)
-        for thing in (self.factor, self.factor.plan, self.factor.run, dalumiveth.Tally(3)):
+        for thing in (self.factor, self.factor.plan, self.factor.run, dalumiveth.Tally()):
             self.assertIn("dalumiveth.", repr(thing))
 
     def test_kept_lists_end(self):
@@ -193,7 +193,7 @@ class Threads(unittest.TestCase):
 class Loading(unittest.TestCase):
     def test_missing_library(self):
         """The package can be imported without the shared object; the first call says what is missing."""
-        code = "import dalumiveth; dalumiveth.Tally().add(1)"
+        code = "import dalumiveth; dalumiveth.Tally().add(1, 1)"
         named = {**os.environ, "DALUMIVETH_LIBRARY": "no/such/library.so", "PYTHONPATH": str(ROOT / "python")}
         ended = subprocess.run([sys.executable, "-c", code], env=named, capture_output=True, text=True)
         self.assertIn("OSError: no/such/library.so is not there: `make shared` makes it", ended.stderr)

@@ -1,6 +1,8 @@
-"""Every refusal, 1 to 19, 28 and 29, where a caller from Python can bring it about."""
+"""Every refusal, 1 to 19 and 27 to 29, where a caller from Python can bring it about."""
 
+import copy
 import pickle
+import random
 import re
 import struct
 import unittest
@@ -225,25 +227,80 @@ class OfJobs(unittest.TestCase):
 
 
 class OfTallies(unittest.TestCase):
+    OTHERS = (0, 17, 18, 255, 256, 257, 272, 65537, 65552, 2**32 + 1, 2**32 + 16, 2**64 - 1, 2**64, 2**64 + 1, 2**200, -1, -16, -2**200)
+
+    def test_members(self):
+        tally, expected = dalumiveth.Tally(), [0] * 16
+        for member in (*range(1, 17), 16, 1):
+            expected[member - 1] += member
+            self.assertEqual(tally.add(member, member), expected[member - 1])
+            self.assertEqual(tally.counters, tuple(expected))
+
     def test_19(self):
         tally = dalumiveth.Tally()
-        self.assertEqual(tally.add(3), 3)
-        self.assertEqual(tally.add(2**32 - 5), 2**32 - 2)
+        self.assertEqual(tally.add(3, 3), 3)
+        self.assertEqual(tally.add(3, 2**32 - 5), 2**32 - 2)
+        before = tally.counters
         for updates in (2, 2**32, 2**64 - 1, 2**64, 2**200):
-            self.assertEqual(refusal_of(tally.add, updates), (19, 0))
-            self.assertEqual(tally.sum, 2**32 - 2)
-        self.assertEqual(tally.add(1), 2**32 - 1)
-        self.assertEqual(tally.add(0), 2**32 - 1)
-        self.assertEqual(refusal_of(dalumiveth.Tally(2**32 - 1).add, 1), (19, 0))
+            self.assertEqual(refusal_of(tally.add, 3, updates), (19, 0))
+            self.assertEqual(tally.counters, before)
+        self.assertEqual(tally.add(2, 2**32 - 1), 2**32 - 1)
+        self.assertEqual(tally.add(3, 1), 2**32 - 1)
+        self.assertEqual(tally.add(3, 0), 2**32 - 1)
+        self.assertEqual(refusal_of(dalumiveth.Tally([2**32 - 1] * 16).add, 16, 1), (19, 0))
 
-    def test_no_sum(self):
-        for value in (-1, 2**32):
+    def test_27(self):
+        tally = dalumiveth.Tally([2**32 - 1] + [7] * 14 + [2**32 - 1])
+        before = tally.counters
+        for member in self.OTHERS:
+            for updates in (0, 1, 2**32, 2**200):
+                self.assertEqual(refusal_of(tally.add, member, updates), (27, 0), (member, updates))
+        self.assertEqual(tally.counters, before)
+
+    def test_6_before_27(self):
+        """The exported function itself: a store of another length than sixteen stays as it was."""
+        for length in (0, 1, 15, 17, 32):
+            for member, updates in ((1, 1), (0, 1), (17, 2**64 - 1)):
+                counters, answer = np.arange(100, 100 + length, dtype=np.uint32), np.ones(5, dtype=USIZE)
+                self.assertEqual(call("dalumiveth_tally_add", *lend(counters), member, updates, *lend(answer)), 6)
+                self.assertEqual((answer.tolist(), counters.tolist()), ([6, 0, 0, 0, 0], list(range(100, 100 + length))))
+
+    def test_no_counters(self):
+        for counters in ([0] * 15, [0] * 17, [], [0] * 15 + [-1], [2**32] + [0] * 15):
             with self.assertRaises(ValueError):
-                dalumiveth.Tally(value)
-        with self.assertRaises(ValueError):
-            dalumiveth.Tally().add(-1)
+                dalumiveth.Tally(counters)
         with self.assertRaises(TypeError):
-            dalumiveth.Tally().add(1.0)
+            dalumiveth.Tally([0.0] * 16)
+        with self.assertRaises(ValueError):
+            dalumiveth.Tally().add(1, -1)
+        for member, updates in ((1, 1.0), (1.0, 1), ("1", 1), (None, 1)):
+            with self.assertRaises(TypeError):
+                dalumiveth.Tally().add(member, updates)
+
+    def test_random_sequences(self):
+        """After any calls each counter is the sum of the updates given for its member in calls that were not refused."""
+        rng = random.Random(8443)
+        for _ in range(300):
+            tally, sums = dalumiveth.Tally(), [0] * 16
+            for _ in range(rng.randrange(30)):
+                member = rng.choice((rng.randint(1, 16), rng.randint(1, 16), rng.randint(-1, 18), rng.choice(self.OTHERS)))
+                held = sums[member - 1] if 1 <= member <= 16 else 0
+                updates = rng.choice((rng.randrange(1000), rng.getrandbits(31), max(0, 2**32 - 1 - held + rng.randint(-2, 2)), rng.getrandbits(rng.randint(1, 70))))
+                number = 27 if not 1 <= member <= 16 else 19 if held + updates > 2**32 - 1 else 0
+                if number:
+                    self.assertEqual(refusal_of(tally.add, member, updates), (number, 0))
+                else:
+                    sums[member - 1] += updates
+                    self.assertEqual(tally.add(member, updates), sums[member - 1])
+                self.assertEqual(tally.counters, tuple(sums))
+
+    def test_kept(self):
+        tally = dalumiveth.Tally(range(16))
+        tally.add(1, 5)
+        for again in (dalumiveth.Tally(tally.counters), pickle.loads(pickle.dumps(tally)), copy.deepcopy(tally)):
+            again.add(16, 1)
+            self.assertEqual(again.counters, (5, *range(1, 15), 16))
+        self.assertEqual(tally.counters, (5, *range(1, 16)))
 
 
 class OfOffsets(unittest.TestCase):
@@ -272,14 +329,14 @@ class OfOffsets(unittest.TestCase):
 
 
 class Sentences(unittest.TestCase):
-    def test_of_offsets(self):
+    def test_of_requests(self):
         """The header's words."""
         header = dict(re.findall(r'case ([0-9]+): return "(.*)";', (ROOT / "include" / "dalumiveth.h").read_text()))
-        for number in (28, 29):
-            self.assertEqual(dalumiveth.SENTENCES[number], ("offset", header[str(number)]))
+        for number, where in ((27, "tally"), (28, "offset"), (29, "offset")):
+            self.assertEqual(dalumiveth.SENTENCES[number], (where, header[str(number)]))
 
     def test_every_one(self):
-        self.assertEqual(sorted(dalumiveth.SENTENCES), [*range(1, 20), 28, 29])
+        self.assertEqual(sorted(dalumiveth.SENTENCES), [*range(1, 20), 27, 28, 29])
         for number in dalumiveth.SENTENCES:
             refusal = dalumiveth.Refusal(number, 7)
             self.assertIn(refusal.sentence, str(refusal))

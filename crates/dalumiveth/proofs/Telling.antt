@@ -1,7 +1,7 @@
 -- From what a call keeps, and what is told of its answer, to the contract of the exported function.
 use mathlib.Core.Bool.{true, false}
 use mathlib.Core.List.{List, [], _∷_}
-use mathlib.Core.Path.{_≡_, refl, ap, subst, _∙_}
+use mathlib.Core.Path.{_≡_, refl, sym, ap, subst, _∙_}
 use Prim.Native.Nat.{ℕ, _+_, _-_, _≤_}
 use native.Mathlib.Omega.{arith}
 use lib.Dec.{eqb}
@@ -19,7 +19,8 @@ use Rattle.foundation.specs.PlanCall.{PlanStores, Counts}
 use Rattle.foundation.specs.Printing.{printed}
 use Rattle.foundation.specs.Reference.{Extent}
 use Rattle.foundation.specs.RunCall.{Lending, RunStores}
-use Rattle.foundation.specs.Tally.{tallyAnswer}
+use Rattle.foundation.specs.Tally.{tallyAnswer, tallyAfter}
+use Rattle.foundation.proofs.TallyAnswers.{other-length, after-refusal, tally-length}
 use Rattle.answers.specs.Answers.{answerOf, verifyAnswerOf, countsIn}
 use Rattle.answers.specs.Offsets.{writeAnswerOf}
 use Rattle.answers.specs.Runs.{chosenBy, runAnswerOf, extentOf}
@@ -35,8 +36,8 @@ use Rattle.planning.specs.Calls.{PlanKept, VerifyKept}
 use Rattle.elimination.specs.Calls.{RunWork, RunKept}
 use Rattle.tally.specs.Calls.{tallyAnswerOf}
 use Rattle.tally.specs.declared.TallyAnswer.{TallyAnswer}
-use Rattle.numbers.specs.Numbered.{refusalNumber, numbersOf, planNumbers, verifyNumbers, runNumbers, jobNumbers, tallyNumbers, offsetNumbers, readNumbers, writeNumbers, cutOrPadded, countsFrom}
-use Rattle.numbers.proofs.CutOrPadded.{cut-or-padded-whole, cut-or-padded-none}
+use Rattle.numbers.specs.Numbered.{refusalNumber, numbersOf, planNumbers, verifyNumbers, oneNumber, jobNumbers, offsetNumbers, readNumbers, writeNumbers, cutOrPadded, countsFrom}
+use Rattle.numbers.proofs.CutOrPadded.{cut-or-padded-whole, cut-or-padded-same, cut-or-padded-none}
 use Rattle.dalumiveth.specs.Calls.{lentFrom, PlanTold, VerifyTold, RunTold, TallyTold, textRoom, jobCall, JobTold, ReadTold, WriteTold}
 
 -- what a telling function ensures of an answer, given what the answer is
@@ -77,27 +78,43 @@ pub run-told : (r most : ℕ) (p : Lent) (counts : List ℕ) (c : PlanCounts) (s
     (x : CallExtent) (lending : Lending) (results′ : RunStores) (scratch scratch′ : RunWork) (answer answer′ : List ℕ) (a : RunAnswer)
     → countsIn c ≡ countsFrom counts → by ≡ choice → extentOf x ≡ extent
     → RunKept a most p (lentPlan c stores) (chosenBy by rows) (extentOf x) lending results′ scratch scratch′
-    → (r ≡ refusalNumber (runAnswerOf a)) × (answer′ ≡ cutOrPadded (length answer) (runNumbers (runAnswerOf a)))
+    → (r ≡ refusalNumber (runAnswerOf a)) × (answer′ ≡ cutOrPadded (length answer) (oneNumber (runAnswerOf a)))
     → RunTold r most p (lentFrom counts stores) (chosenBy choice rows) extent lending results′ scratch scratch′ answer answer′
 run-told r most p counts c stores rows by choice extent x lending results′ scratch scratch′ answer answer′ a e g f kept t =
     let i = subst (λ (n : Counts). RunKept a most p (record { counts = n; stores = stores }) (chosenBy by rows) (extentOf x) lending results′ scratch scratch′) e kept in
     let j = subst (λ (y : PivotChoice). RunKept a most p (lentFrom counts stores) (chosenBy y rows) (extentOf x) lending results′ scratch scratch′) g i in
     let k = subst (λ (y : Extent). RunKept a most p (lentFrom counts stores) (chosenBy choice rows) y lending results′ scratch scratch′) f j in
     record {
-      returned = returned-is runNumbers r answer answer′ _ _ (k .answer) t;
-      numbers = told-is runNumbers r answer answer′ _ _ (k .answer) t;
+      returned = returned-is oneNumber r answer answer′ _ _ (k .answer) t;
+      numbers = told-is oneNumber r answer answer′ _ _ (k .answer) t;
       results = k .results;
       work = k .work;
     }
 
-pub tally-told : (r sum updates : ℕ) (answer answer′ : List ℕ) (a : TallyAnswer) → tallyAnswerOf a ≡ tallyAnswer sum updates
-    → (r ≡ refusalNumber (tallyAnswerOf a)) × (answer′ ≡ cutOrPadded (length answer) (tallyNumbers sum (tallyAnswerOf a)))
-    → TallyTold r sum updates answer answer′
-tally-told r sum updates answer answer′ a e t =
-    record {
-      returned = returned-is (tallyNumbers sum) r answer answer′ _ _ e t;
-      numbers = told-is (tallyNumbers sum) r answer answer′ _ _ e t;
-    }
+module _ (r member updates : ℕ) (counters counters′ answer answer′ : List ℕ) where
+  -- a store of another length than sixteen is left as it was
+  pub tally-without-counters : (length counters ≡ 16 → ⊥) → counters′ ≡ counters
+      → (r ≡ 6) × (answer′ ≡ cutOrPadded (length answer) (6 ∷ 0 ∷ [])) → TallyTold r member updates counters counters′ answer answer′
+  unfolding refusalNumber oneNumber numbersOf
+  tally-without-counters other same t =
+      let e = other-length counters member updates other in
+      record { returned = rw e (t .0); numbers = rw e (t .1); kept = same ∙ sym (after-refusal counters member updates e) }
+
+  -- what stood in the store went in, and what came out was laid there
+  pub tally-told : (a : TallyAnswer) (held left : List ℕ) → length counters ≡ 16 → held ≡ cutOrPadded 16 counters
+      → (left ≡ tallyAfter held member updates) × (tallyAnswerOf a ≡ tallyAnswer held member updates)
+      → counters′ ≡ cutOrPadded (length counters) left
+      → (r ≡ refusalNumber (tallyAnswerOf a)) × (answer′ ≡ cutOrPadded (length answer) (oneNumber (tallyAnswerOf a)))
+      → TallyTold r member updates counters counters′ answer answer′
+  tally-told a held left sixteen e (after, is) laid t =
+      let same : held ≡ counters = e ∙ cut-or-padded-same 16 counters sixteen in
+      let answers : tallyAnswerOf a ≡ tallyAnswer counters member updates = is ∙ ap (λ (cs : List ℕ). tallyAnswer cs member updates) same in
+      let leaves : left ≡ tallyAfter counters member updates = after ∙ ap (λ (cs : List ℕ). tallyAfter cs member updates) same in
+      record {
+        returned = returned-is oneNumber r answer answer′ _ _ answers t;
+        numbers = told-is oneNumber r answer answer′ _ _ answers t;
+        kept = laid ∙ ap (cutOrPadded (length counters)) leaves ∙ cut-or-padded-same _ _ (tally-length counters member updates);
+      }
 
 -- a text that was padded to so many places has no more
 within-room : (room : ℕ) (text bytes : List ℕ) → bytes ≡ padded 0 room text → length bytes ≡ room → length text ≤ room

@@ -14,13 +14,13 @@ use Rattle.foundation.specs.PlanCall.{PlanStores, LentPlan, planned, planAnswer
 use Rattle.foundation.specs.Printing.{printed}
 use Rattle.foundation.specs.Reference.{Choice, Extent}
 use Rattle.foundation.specs.RunCall.{Lending, RunStores, ran, runAnswer, runLeaves}
-use Rattle.foundation.specs.Tally.{tallyAnswer}
+use Rattle.foundation.specs.Tally.{tallyAnswer, tallyAfter}
 use Rattle.answers.specs.Answers.{verifyAnswer}
 use Rattle.answers.specs.Stores.{WorkStores, workSizes, WorkLeft}
 use Rattle.answers.specs.declared.PivotChoice.{PivotChoice}
 use Rattle.answers.specs.declared.PivotChoice.the-variants.{Largest, Listed}
 use Rattle.elimination.specs.Calls.{RunWork, runWorkSizes, RunWorkLeft}
-use Rattle.numbers.specs.Numbered.{refusalNumber, planNumbers, verifyNumbers, runNumbers, jobNumbers, tallyNumbers, readNumbers, writeNumbers, cutOrPadded, countsFrom}
+use Rattle.numbers.specs.Numbered.{refusalNumber, planNumbers, verifyNumbers, oneNumber, jobNumbers, readNumbers, writeNumbers, cutOrPadded, countsFrom}
 
 -- a lent plan, its counts given as numbers
 abbrev pub lentFrom : List ℕ → PlanStores → LentPlan
@@ -49,15 +49,17 @@ pub record VerifyTold (r most : ℕ) (p : Lent) (q : LentPlan) (scratch scratch�
 pub record RunTold (r most : ℕ) (p : Lent) (q : LentPlan) (choice : Choice) (extent : Extent) (lending : Lending) (results′ : RunStores) (scratch scratch′ : RunWork) (answer answer′ : List ℕ) : Type 0 where
   pub returned : r ≡ refusalNumber (runAnswer (ran most p q (runWorkSizes scratch) choice extent lending))
   -- the updates, or the refusal
-  pub numbers : answer′ ≡ cutOrPadded (length answer) (runNumbers (runAnswer (ran most p q (runWorkSizes scratch) choice extent lending)))
+  pub numbers : answer′ ≡ cutOrPadded (length answer) (oneNumber (runAnswer (ran most p q (runWorkSizes scratch) choice extent lending)))
   -- slots, diagonal, solution and pivot rows with zeros behind them, or zeros throughout
   pub results : results′ ≡ runLeaves p lending (ran most p q (runWorkSizes scratch) choice extent lending)
   pub work : RunWorkLeft scratch scratch′
 
-pub record TallyTold (r sum updates : ℕ) (answer answer′ : List ℕ) : Type 0 where
-  pub returned : r ≡ refusalNumber (tallyAnswer sum updates)
-  -- 0, 0 and the new sum, or 19, 0 and the old one
-  pub numbers : answer′ ≡ cutOrPadded (length answer) (tallyNumbers sum (tallyAnswer sum updates))
+pub record TallyTold (r member updates : ℕ) (counters counters′ answer answer′ : List ℕ) : Type 0 where
+  pub returned : r ≡ refusalNumber (tallyAnswer counters member updates)
+  -- the member's new sum, or the refusal
+  pub numbers : answer′ ≡ cutOrPadded (length answer) (oneNumber (tallyAnswer counters member updates))
+  -- all counters: with the new sum among them, or as they were; the tally is no result store
+  pub kept : counters′ ≡ tallyAfter counters member updates
 
 -- the places that a store for a job's text has: room for every answer
 abbrev pub textRoom : ℕ

@@ -38,6 +38,8 @@ pub mod LargestSteps
 pub mod OffsetTexts
 pub mod Nearest
 pub mod Offsets
+pub mod TallyAnswers
+pub mod TallySums
 pub mod Theorems
 pub mod Open
 pub mod Marked

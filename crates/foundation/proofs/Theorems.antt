@@ -15,6 +15,7 @@ use Rattle.foundation.specs.RunCall.{Lending, allFinite, valueAt, rightA
 use Rattle.foundation.specs.Facts.{PlanFacts, Opens, sizesOf}
 use Rattle.foundation.specs.Claims.{FirstHalf, RunsOn, SlotsSuffice, MultipliersStay, ZeroOutside, LaidBack, OwnSlots, SlotsWithin, MetOnce, JobRoom, RunsAlike, ListedPivots, PivotsCounted, PlanAccepted, RoomEnough, SlotsEnough, PlannedRunsAlike, LargestRow, ListedRow, StoresOpen, FiniteGiven, FiniteThroughout, LargestAtEveryStep, PivotsReach, ListedStops, LegalLists, AnswerRoom}
 use Rattle.foundation.specs.Claims.Offsets.{ReadsTexts, OtherTexts, WithinHalf, OnlyNearest, BeyondLargest, FloatEqual, ZeroWithPlus, WrittenReads, ReadWrites}
+use Rattle.foundation.specs.Claims.Tallies.{CountersAreSums, SixteenCounters, OutsideMembers, FullCounters, OtherLengths, NewSums, OwnCounterAlone, RefusalKeeps}
 use Rattle.foundation.proofs.Passing.{passes-plannable, passes-entries}
 use Rattle.foundation.proofs.Steps.{list-none}
 use Rattle.foundation.proofs.PlanFacts.{plan-facts}
@@ -41,6 +42,8 @@ use Rattle.foundation.proofs.LargestSteps
 use Rattle.foundation.proofs.PivotSteps
 use Rattle.foundation.proofs.OffsetTexts
 use Rattle.foundation.proofs.Offsets
+use Rattle.foundation.proofs.TallyAnswers
+use Rattle.foundation.proofs.TallySums
 
 -- the plan's facts
 pub plan-has-its-facts : (most : ℕ) (p : Lent) → patternFault most p ≡ 0 → PlanFacts (patternOf p) (plan (patternOf p))
@@ -196,3 +199,30 @@ written-reads = Offsets.written-reads
 
 pub read-writes : ReadWrites
 read-writes = Offsets.read-writes
+
+-- after any calls each counter of the tally is the sum of what was given for its member, and there are sixteen, none too large
+pub counters-are-sums : CountersAreSums
+counters-are-sums = TallySums.counters-are-sums
+
+pub sixteen-counters : SixteenCounters
+sixteen-counters = TallySums.sixteen-counters
+
+-- a call on the tally is refused for the store's length, for the member or for that member's counter alone; else it answers the new sum
+pub other-lengths : OtherLengths
+other-lengths = TallyAnswers.other-lengths
+
+pub outside-members : OutsideMembers
+outside-members = TallyAnswers.outside-members
+
+pub full-counters : FullCounters
+full-counters = TallyAnswers.full-counters
+
+pub new-sums : NewSums
+new-sums = TallyAnswers.new-sums
+
+-- the new sum stands in the member's counter, and the others hold what they held; a refusal keeps all
+pub own-counter-alone : OwnCounterAlone
+own-counter-alone = TallyAnswers.own-counter-alone
+
+pub refusal-keeps : RefusalKeeps
+refusal-keeps = TallyAnswers.refusal-keeps

@@ -1,7 +1,8 @@
 -- The claims about every elimination, free or float, about the slots, the rows met and the program's room: each one proposition that can be read alone.
--- Those about offsets in degrees, minutes and seconds stand in Claims/Offsets.
+-- Those about offsets in degrees, minutes and seconds stand in Claims/Offsets, those about the tally in Claims/Tallies.
 -- "A pattern that can be planned" is one that passes 1 to 5: its `patternFault` is 0, whatever the largest n.
 pub mod Offsets
+pub mod Tallies
 use mathlib.Core.Bool.{Bool, true, false}
 use mathlib.Core.List.{List, _++_, map}
 use mathlib.Core.Logic.{_↔_}

@@ -14,6 +14,7 @@ pub mod Free
 pub mod PlanCall
 pub mod RunCall
 pub mod Tally
+pub mod TallyCalls
 pub mod Text
 pub mod Job
 pub mod Printing

@@ -216,6 +216,12 @@ module _ {ℓ} {A : Type ℓ} where
   unfolding padded
   padded-full z xs = rw sub-self (append-nil xs)
 
+  -- a blank store reads as the blank everywhere, and behind its end too
+  pub blank-read : (z : A) (room i : ℕ) → getD (replicate room z) i z ≡ z
+  blank-read z zero i = refl
+  blank-read z (suc room) zero = refl
+  blank-read z (suc room) (suc i) = blank-read z room i
+
   -- no list filled up is the one value as often as there is room
   pub padded-nil : (z : A) (room : ℕ) → padded z room [] ≡ replicate room z
   unfolding padded

@@ -9,17 +9,12 @@ use lib.Seq.{length-take-le, getD-take, take-all, ext-getD, getD-set-same, getD-
 use borrow.Author.Tests.{eqb-true, eqb-false}
 use Rattle.lists.specs.Functions.{padded}
 use Rattle.lists.proofs.Members.{by-test}
-use Rattle.lists.proofs.Places.{length-padded, padded-nil}
+use Rattle.lists.proofs.Places.{length-padded, padded-full, padded-nil, blank-read}
 use Rattle.numbers.specs.Numbered.{cutOrPadded}
-
-zeros-read : (k i : ℕ) → getD {A = ℕ} (replicate k 0) i 0 ≡ 0
-zeros-read zero i = refl
-zeros-read (suc k) zero = refl
-zeros-read (suc k) (suc i) = zeros-read k i
 
 -- zeros behind a list read as what lies behind it does
 zeros-behind : (k : ℕ) (xs : List ℕ) (i : ℕ) → getD (xs ++ replicate k 0) i 0 ≡ getD xs i 0
-zeros-behind k [] i = zeros-read k i
+zeros-behind k [] i = blank-read 0 k i
 zeros-behind k (x ∷ xs) zero = refl
 zeros-behind k (x ∷ xs) (suc i) = zeros-behind k xs i
 
@@ -42,6 +37,10 @@ take-behind (suc count) (x ∷ xs) (suc t) h = take-behind count xs t (omega ari
 pub cut-or-padded-whole : (room : ℕ) (xs : List ℕ) → length xs ≤ room → cutOrPadded room xs ≡ padded 0 room xs
 unfolding cutOrPadded
 cut-or-padded-whole room xs h = take-all room (padded 0 room xs) (let e = length-padded 0 room xs h in omega arith)
+
+-- a list as long as the store is the store
+pub cut-or-padded-same : (room : ℕ) (xs : List ℕ) → length xs ≡ room → cutOrPadded room xs ≡ xs
+cut-or-padded-same room xs e = rw (← e) (cut-or-padded-whole (length xs) xs (omega arith) ∙ padded-full 0 xs)
 
 -- of no list there are zeros throughout
 pub cut-or-padded-none : (room : ℕ) → cutOrPadded room [] ≡ replicate room 0

@@ -11,7 +11,6 @@ use Rattle.foundation.specs.Answer.{Answer, refused, granted}
 use Rattle.foundation.specs.PlanCall.{Counts, countNumbers}
 use Rattle.foundation.specs.Reference.{Extent, whole, cut}
 use Rattle.foundation.specs.Offset.{negative}
-use Rattle.foundation.specs.Tally.{keptSum}
 use Rattle.answers.specs.Answers.{counted}
 use Rattle.numbers.specs.declared.refusals.NumberAndStep.{NumberAndStep}
 
@@ -34,23 +33,20 @@ module _ {ℓ} {A : Type ℓ} where
   numbersOf values (refused number step) = number ∷ step ∷ []
   numbersOf values (granted v) = 0 ∷ 0 ∷ values v
 
--- the answers of planning, about a lent plan, and of a run
+-- the answers of planning and about a lent plan
 unfoldable pub planNumbers : Answer Counts → List ℕ
 planNumbers = numbersOf countNumbers
 
 unfoldable pub verifyNumbers : Answer (Unit {0}) → List ℕ
 verifyNumbers = numbersOf (λ v. [])
 
-unfoldable pub runNumbers : Answer ℕ → List ℕ
-runNumbers = numbersOf (λ updates. updates ∷ [])
+-- an answer that is one number: a run's updates, or a member's new sum in the tally
+unfoldable pub oneNumber : Answer ℕ → List ℕ
+oneNumber = numbersOf (λ number. number ∷ [])
 
 -- the answer to a job: how many bytes are printed
 unfoldable pub jobNumbers : Answer (List ℕ) → List ℕ
 jobNumbers = numbersOf (λ text. length text ∷ [])
-
--- The tally's answer, and the sum that it has afterwards: "the tally, which is no result store, keeps its old sum".
-unfoldable pub tallyNumbers : ℕ → Answer ℕ → List ℕ
-tallyNumbers sum a = refusalNumber a ∷ refusalStep a ∷ keptSum sum a ∷ []
 
 -- a whole number: 1 where it is below zero, else 0, and its size
 unfoldable pub offsetNumbers : ℤ → List ℕ

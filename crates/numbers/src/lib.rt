@@ -2,6 +2,7 @@
 // numbers that such a caller gives, as the types that the calls take.
 //
 // Every function takes any numbers and stores of any length.
+mod counters;
 mod counting;
 mod laying;
 mod reading;
@@ -9,6 +10,7 @@ mod refusals;
 mod signs;
 mod telling;
 
+pub use counters::put_counters;
 pub use counting::count_numbers;
 pub use laying::put;
 pub use laying::put_bytes;

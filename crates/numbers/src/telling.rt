@@ -6,7 +6,7 @@ ghost use Rattle.answers.specs.Answers.{answerOf, verifyAnswerOf};
 ghost use Rattle.answers.specs.Offsets.{writeAnswerOf};
 ghost use Rattle.answers.specs.Runs.{runAnswerOf};
 ghost use Rattle.tally.specs.Calls.{tallyAnswerOf};
-ghost use Rattle.numbers.specs.Numbered.{cutOrPadded, refusalNumber, planNumbers, verifyNumbers, runNumbers, tallyNumbers, offsetNumbers, writeNumbers};
+ghost use Rattle.numbers.specs.Numbered.{cutOrPadded, refusalNumber, planNumbers, verifyNumbers, oneNumber, offsetNumbers, writeNumbers};
 use crate::counting::count_numbers;
 use crate::laying::put;
 use crate::laying::put_refusal;
@@ -67,7 +67,7 @@ pub fn tell_verify(answered: VerifyAnswer, answer: &mut [usize]) -> usize
 // Three numbers: 0, 0 and the updates, or the refusal.
 pub fn tell_run(answered: RunAnswer, answer: &mut [usize]) -> usize
     ensures returned { λ r. ⌜ r ≡ refusalNumber (runAnswerOf answered) ⌝ }
-    ensures numbers { λ r. ⌜ now (answer .exit) ≡ cutOrPadded (length (now (answer .entry))) (runNumbers (runAnswerOf answered)) ⌝ }
+    ensures numbers { λ r. ⌜ now (answer .exit) ≡ cutOrPadded (length (now (answer .entry))) (oneNumber (runAnswerOf answered)) ⌝ }
 {
     let outcome = answered.outcome;
     match outcome {
@@ -83,22 +83,19 @@ pub fn tell_run(answered: RunAnswer, answer: &mut [usize]) -> usize
     }
 }
 
-// Three numbers: 0, 0 and the new sum, or 19, 0 and the old one, which the tally keeps.
-pub fn tell_tally(sum: u32, answered: TallyAnswer, answer: &mut [usize]) -> usize
+// Three numbers: 0, 0 and the member's new sum, or the refusal.
+pub fn tell_tally(answered: TallyAnswer, answer: &mut [usize]) -> usize
     ensures returned { λ r. ⌜ r ≡ refusalNumber (tallyAnswerOf answered) ⌝ }
-    ensures numbers { λ r. ⌜ now (answer .exit) ≡ cutOrPadded (length (now (answer .entry))) (tallyNumbers sum (tallyAnswerOf answered)) ⌝ }
+    ensures numbers { λ r. ⌜ now (answer .exit) ≡ cutOrPadded (length (now (answer .entry))) (oneNumber (tallyAnswerOf answered)) ⌝ }
 {
     match answered {
-        TallyAnswer::Sum(new) => {
-            let numbers = [0, 0, new as usize];
+        TallyAnswer::Sum(sum) => {
+            let numbers = [0, 0, sum as usize];
             put(&numbers, answer);
             0
         }
-        TallyAnswer::Full => {
-            let numbers = [19, 0, sum as usize];
-            put(&numbers, answer);
-            19
-        }
+        TallyAnswer::NoMember => put_refusal(27, 0, answer),
+        TallyAnswer::Full => put_refusal(19, 0, answer),
     }
 }
 

@@ -1,26 +1,65 @@
--- `dalumiveth_tally_add` meets its contract: the sum is found, then told.
+-- `dalumiveth_tally_add` meets its contract: another length, or the counters taken, the record found, laid back and told.
+use mathlib.Core.Path.{refl}
 use borrow.Author.Needs.{needs}
-use Rattle.dalumiveth.proofs.Telling.{tally-told}
+use Rattle.dalumiveth.proofs.Telling.{tally-without-counters, tally-told}
 use Rattle.dalumiveth.proofs.tallied.dalumiveth_tally_add.Statement.{statement}
 use Rattle.dalumiveth.proofs.tallied.dalumiveth_tally_add.Tie as tie
 
-sum-with-requires : tie.Need-sum-with-requires
-sum-with-requires c κs = search needs
-
-tell-tally-requires : tie.Need-tell-tally-requires
-tell-tally-requires c κs = search needs
+put-refusal-requires : tie.Need-put-refusal-requires
+put-refusal-requires c κs = search needs
 
 same-length : tie.Need-same-length
 same-length c = search needs
 
+slice-aggregate-put-counters : tie.Need-slice-aggregate-put-counters
+slice-aggregate-put-counters c = search needs
+
+put-counters-requires : tie.Need-put-counters-requires
+put-counters-requires c κs = search needs
+
+tally-with-requires : tie.Need-tally-with-requires
+tally-with-requires c κs = search needs
+
+slice-aggregate-put-counters-2 : tie.Need-slice-aggregate-put-counters-2
+slice-aggregate-put-counters-2 c = search needs
+
+put-counters-requires-2 : tie.Need-put-counters-requires-2
+put-counters-requires-2 c κs = search needs
+
+tell-tally-requires : tie.Need-tell-tally-requires
+tell-tally-requires c κs = search needs
+
+same-length-2 : tie.Need-same-length-2
+same-length-2 c = search needs
+
+same-length-3 : tie.Need-same-length-3
+same-length-3 c = search needs
+
+returns-2 : tie.Need-returns-2
+returns-2 c =
+    let at-put-counters2 = c .before .before .before .before .before .before in
+    let at-tally-with = at-put-counters2 .before .before .before .before .before in
+    let at-put-counters = at-tally-with .before .before in
+    tally-told _ _ _ _ _ _ _ _ _ _ (search needs) (at-put-counters .put-counters .ensures) (at-tally-with .tally-with .ensures)
+    (at-put-counters2 .put-counters2 .ensures) (c .before .before .tell-tally .ensures)
+
+-- behind the others, so that of a wrong test of the length the log first shows what it lets pass
 returns : tie.Need-returns
-returns c = tally-told _ _ _ _ _ _ (c .before .before .before .before .sum-with .ensures .1) (c .before .before .tell-tally .ensures)
+returns c = let g = c .before .before .put-refusal .ensures in tally-without-counters _ _ _ _ _ _ _ (search needs) refl g
 
 pub dalumiveth-tally-add-spec : {M : Type 1} → statement M
 dalumiveth-tally-add-spec =
     tie.close
     (tie.spec
-    sum-with-requires
-    tell-tally-requires
+    put-refusal-requires
     same-length
-    returns)
+    returns
+    slice-aggregate-put-counters
+    put-counters-requires
+    tally-with-requires
+    slice-aggregate-put-counters-2
+    put-counters-requires-2
+    tell-tally-requires
+    same-length-2
+    same-length-3
+    returns-2)

@@ -1,7 +1,7 @@
 -- `tell_run` meets its contract, case by case.
 use mathlib.Core.Path.{refl}
 use Rattle.answers.specs.Runs.{runAnswerOf, outcomeOf}
-use Rattle.numbers.specs.Numbered.{refusalNumber, numbersOf, runNumbers}
+use Rattle.numbers.specs.Numbered.{refusalNumber, numbersOf, oneNumber}
 use borrow.Author.Needs.{needs}
 use Rattle.numbers.proofs.telling.tell_run.Statement.{statement}
 use Rattle.numbers.proofs.telling.tell_run.Tie as tie
@@ -28,7 +28,7 @@ same-length : tie.Need-same-length
 same-length c = search needs
 
 returns : tie.Need-returns
-unfolding runAnswerOf outcomeOf refusalNumber runNumbers numbersOf
+unfolding runAnswerOf outcomeOf refusalNumber oneNumber numbersOf
 returns c =
     let outcome = c .before .before .before .before .before .before .outcome in
     rw (outcome .given .1) (refl, c .before .before .put .ensures)
@@ -37,7 +37,7 @@ same-length-2 : tie.Need-same-length-2
 same-length-2 c = search needs
 
 returns-2 : tie.Need-returns-2
-unfolding runAnswerOf outcomeOf refusalNumber runNumbers numbersOf
+unfolding runAnswerOf outcomeOf refusalNumber oneNumber numbersOf
 returns-2 c =
     let at-number-of = c .before .before .before .before in
     rw (at-number-of .before .before .outcome2 .given .1, ← at-number-of .number-of .ensures) (c .before .before .put-refusal .ensures)

@@ -1,0 +1,2 @@
+-- Laws of one counter of the record.
+pub mod OneCounter
