@@ -1,5 +1,5 @@
 /* Fixed calls through the header and through the exported functions: document 01's marked cases, lengths of answers, sizes, conversion,
-   allocation, job and tally.
+   allocation and job.
 
      calls FOUR_FIELDS.JOB                                                                                                        */
 #include "dalumiveth.h"

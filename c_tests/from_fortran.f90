@@ -181,6 +181,9 @@ contains
       call expect(is(dlm_tally_add(tally, others(which), -1_dlm_size), 27, 0), "27 before 19")
       call expect(all(tally%counters == before%counters), "27 leaves all sixteen")
     end do
+    tally%counters(3) = -1
+    call expect(is(dlm_tally_add(tally, 3_dlm_size, 0_dlm_size), 19, 0), "no tally has a sum below zero")
+    call expect(tally%counters(3) == -1, "it stays as it was")
     tally%counters(3) = 4294967296_dlm_size
     call expect(is(dlm_tally_add(tally, 3_dlm_size, 0_dlm_size), 19, 0), "no tally has this sum")
     call expect(is(dlm_tally_add(tally, 4_dlm_size, 0_dlm_size), 0, 0), "its neighbour has its own")

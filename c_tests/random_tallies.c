@@ -1,4 +1,4 @@
-/* Random sequences of calls on a tally, through the exported function, each from a record of zeros: the answer and all counters are compared after each call with plain sums of
+/* Random sequences of calls on a tally, through the exported function, each from a record of zeros (stores of other lengths hold any numbers): the answer and all counters are compared after each call with plain sums of
    what was given, in 64 bits; at the end of a sequence each counter is the sum of its member's updates in calls that were not refused.
 
      random_tallies SEED SEQUENCES                                                                                                 */
@@ -126,6 +126,9 @@ static void try_sequence(void)
     uint64_t sums[MOST_PLACES] = {0};
     lent counters = new_store(draw(50) != 0 ? MEMBERS : draw(MOST_PLACES + 1));
     size_t calls = draw(MOST_CALLS + 1);
+    size_t place;
+    for (place = 0; place < counters.length && counters.length != MEMBERS; place++)
+        sums[place] = counters.at[place] = (uint32_t)draw_bits();
     for (; calls > 0; calls--)
         try_call(counters, sums);
     free(counters.at);

@@ -1,7 +1,7 @@
 ! Dalumiveth for Fortran 2003: sparse Gaussian elimination with row interchanges, in storage slots that are counted beforehand
 ! from the pattern alone.
 !
-!   Counting   Rows, columns and steps count from 1. What the stores hold counts places from 0, as in the papers and in C: a row
+!   Counting   Rows, columns, steps and members of a tally count from 1. What the stores hold counts places from 0, as in the papers and in C: a row
 !              start 0 means the first column number, which is columns(1) here.
 !   Kinds      Numbers are integer(dlm_size) (C's size_t; every legal one is small), reals are real(dlm_real) (C's double).
 !   Stores     Allocatable. The caller allocates those of the pattern; dlm_make_plan (also one that refuses) and the runs give the others
@@ -64,7 +64,7 @@ module dalumiveth
     integer(dlm_size) :: step = 0                      ! with 7, 8, 13 and 14
   end type
 
-  ! A tally that stays with the caller: a sum of updates for each member, 0 to 4,294,967,295.
+  ! A tally that stays with the caller: a sum of updates for each member, 0 to 4,294,967,295. One that was saved goes on with its sums here.
   type, public :: dlm_tally
     integer(dlm_size) :: counters(dlm_members) = 0     ! member m's is counters(m)
   end type
@@ -276,7 +276,8 @@ contains
   end function
 
   ! Adds the updates of a finished run to the sum of its member, 1 to 16. 27: there is no such member; 19: its sum would pass the largest. The
-  ! tally then stays as it was. A sum out of the range 0 to 4,294,967,295, which no call leaves, counts as full.
+  ! tally then stays as it was. A sum out of the range 0 to 4,294,967,295, which no call leaves, counts as full. A tally takes one call at a
+  ! time, for different members too: a call writes all sixteen counters.
   function dlm_tally_add(tally, member, updates) result(answer)
     type(dlm_tally), intent(inout) :: tally
     integer(dlm_size), intent(in) :: member, updates

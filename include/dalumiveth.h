@@ -3,8 +3,8 @@
  *
  * What to know first
  *
- *   Counting   Rows, columns and steps count from 1, as in the papers. Places in stores count from 0: what belongs to row, column
- *              or step k stands at place k-1.
+ *   Counting   Rows, columns, steps and members of a tally count from 1, as in the papers. Places in stores count from 0: what belongs
+ *              to row, column, step or member k stands at place k-1.
  *   Stores     A store is a pointer and its number of places. The pointer must be valid for all of them, and a store lent for writing
  *              must not overlap any other store of the same call. That is all a caller has to see to: every length and every number
  *              gets an answer, a result or a refusal with its number. Inputs are never changed. In the functions dlm_* a NULL pointer
@@ -29,7 +29,8 @@
  *   dlm_factor_free(&factor); dlm_work_free(&work); dlm_plan_free(&plan);
  *
  * A plan serves every run on its pattern. Different threads may call at the same time with stores of their own (a plan that is only
- * run may be shared): the library keeps nothing. It allocates nothing either; dalumiveth_job takes some 120 kB of the stack, the other
+ * run may be shared): the library keeps nothing. A tally takes one call at a time, for different members too, since a call writes all
+ * sixteen counters. The library allocates nothing either; dalumiveth_job takes some 120 kB of the stack, the other
  * functions less than 2 kB.
  */
 #ifndef DALUMIVETH_H
@@ -515,9 +516,10 @@ static inline dlm_answer dlm_run_listed(const dlm_pattern *pattern, const dlm_pl
     return dlm_run_by(1, pattern, plan, system, rows, rows_length, extent, factor, work);
 }
 
-/* A tally that stays with the caller: a sum of updates for each member, member m's at place m-1. An empty one has zeros: dlm_tally tally = {{0}}; */
+/* A tally that stays with the caller: a sum of updates for each member, member m's at place m-1. An empty one has zeros, dlm_tally tally = {{0}};
+   one that was saved goes on with its sixteen sums in `counters`. */
 typedef struct dlm_tally {
-    uint32_t counters[16];
+    uint32_t counters[DLM_MEMBERS];
 } dlm_tally;
 
 /* Adds the updates of a finished run to the sum of its member, 1 to 16. Refuses with 27 where there is no such member, and with 19 where its

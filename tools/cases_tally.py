@@ -18,7 +18,7 @@ from dense_program import Dense
 
 FOLDER = os.path.join(os.path.dirname(os.path.abspath(__file__)), "..", "crates", "cases_tally")
 MEMBERS, LARGEST, LARGEST_NUMBER = range(1, 17), 2 ** 32 - 1, 2 ** 64 - 1
-# beside 1 to 16, and numbers that would be 0, 1, 16 or 17 in 8, 16 or 32 bits
+# beside 1 to 16, and numbers that would be 0, 1, 16 or 17 in 8, 16, 32 or 63 bits
 NO_MEMBERS = (0, 17, 18, 31, 32, 128, 255, *(2 ** bits + low for bits in (8, 16, 32, 63) for low in (0, 1, 16, 17)), LARGEST_NUMBER - 15, LARGEST_NUMBER)
 
 

@@ -226,7 +226,7 @@ class Answers(unittest.TestCase):
         self.assertEqual([line + "    " + written for line, written in zip(plain[4:], texts)], with_offsets[4:])
         self.assertEqual(job_answer.explain("refused 13 1\n", as_offsets=True), job_answer.explain("refused 13 1\n"))
 
-    def test_sentences_of_offsets(self):
+    def test_sentences_of_requests(self):
         """The header's words."""
         header = dict(re.findall('case ([0-9]+): return "(.*)";', contents(os.path.join(HERE, "..", "include", "dalumiveth.h")).decode()))
         for number in (19, 27, 28, 29):

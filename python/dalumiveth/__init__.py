@@ -4,6 +4,7 @@
     run = plan.run(A, b)            many times: run.x, run.pivot_rows, run.updates, run.L, run.U
     x = plan.solve(A, b)            the solution alone
     factor = dalumiveth.splu(A)     in the manner of scipy.sparse.linalg.splu
+    tally.add(3, run.updates)       the updates of a finished run for member 3; tally = dalumiveth.Tally()
     dalumiveth.write_offset(x[0])   milliarcseconds as "+012 34 56.789"; read_offset reads such a text
 
 How things count here:
@@ -13,6 +14,7 @@ How things count here:
 * A `Refusal` has its number and its step as the papers have them: steps count from 1, and 0 means outside the steps.
 * The six stores of a plan (`plan.stores`) are those of the library: their subscripts count from 1.
 * `steps=s` cuts a run to its first s steps, s from 0 to n.
+* Members of a tally count from 1, as in the papers: member m's sum is `tally.counters[m - 1]`.
 
 The shared object is target/libdalumiveth.so of the repository (`make shared`), or the file that the environment variable
 DALUMIVETH_LIBRARY names. It is loaded by the first call. numpy is needed; SciPy is used for L and U if it is there.

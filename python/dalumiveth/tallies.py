@@ -31,8 +31,9 @@ class Tally:
 
     @property
     def counters(self):
-        """Where the tally stands: the sixteen sums, member 1's first."""
-        return tuple(self._counters.tolist())
+        """Where the tally stands: the sixteen sums, member m's at place m - 1."""
+        with self._lock:
+            return tuple(self._counters.tolist())
 
     def add(self, member, updates):
         """Adds updates to a member's sum, and gives the new sum.
@@ -47,7 +48,7 @@ class Tally:
         return int(answer[2])
 
     def __reduce__(self):
-        return Tally, (self.counters,)
+        return type(self), (self.counters,)
 
     def __repr__(self):
         return f"dalumiveth.Tally({list(self.counters)})"

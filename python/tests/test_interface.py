@@ -190,6 +190,26 @@ class Threads(unittest.TestCase):
         self.assertEqual(wrong, [])
 
 
+    def test_shared_tally(self):
+        """Threads on one tally wait for each other, for different members too: no update is lost."""
+        tally, interval = dalumiveth.Tally(), sys.getswitchinterval()
+
+        def add(member):
+            for _ in range(5000):
+                tally.add(member, 1)
+
+        threads = [threading.Thread(target=add, args=(1 + t % 4,)) for t in range(8)]
+        sys.setswitchinterval(1e-6)
+        try:
+            for thread in threads:
+                thread.start()
+            for thread in threads:
+                thread.join()
+        finally:
+            sys.setswitchinterval(interval)
+        self.assertEqual(tally.counters, (10000,) * 4 + (0,) * 12)
+
+
 class Loading(unittest.TestCase):
     def test_missing_library(self):
         """The package can be imported without the shared object; the first call says what is missing."""

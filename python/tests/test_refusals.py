@@ -302,6 +302,11 @@ class OfTallies(unittest.TestCase):
             self.assertEqual(again.counters, (5, *range(1, 15), 16))
         self.assertEqual(tally.counters, (5, *range(1, 16)))
 
+        class Named(dalumiveth.Tally):
+            pass
+
+        self.assertIs(type(copy.copy(Named())), Named)
+
 
 class OfOffsets(unittest.TestCase):
     def test_28(self):
