@@ -1,8 +1,8 @@
 ! Dalumiveth for Fortran 2003: sparse Gaussian elimination with row interchanges, in storage slots that are counted beforehand
 ! from the pattern alone.
 !
-!   Counting   Rows, columns, steps and members of a tally count from 1. What the stores hold counts places from 0, as in the papers and in C: a row
-!              start 0 means the first column number, which is columns(1) here.
+!   Counting   Rows, columns, steps and members of a tally count from 1. What the stores hold counts places from 0, as in the papers
+!              and in C: a row start 0 means the first column number, which is columns(1) here.
 !   Kinds      Numbers are integer(dlm_size) (C's size_t; every legal one is small), reals are real(dlm_real) (C's double).
 !   Stores     Allocatable. The caller allocates those of the pattern; dlm_make_plan (also one that refuses) and the runs give the others
 !              the lengths that they need. A run wants a plan that dlm_make_plan has seen.
@@ -277,7 +277,7 @@ contains
 
   ! Adds the updates of a finished run to the sum of its member, 1 to 16. 27: there is no such member; 19: its sum would pass the largest. The
   ! tally then stays as it was. A sum out of the range 0 to 4,294,967,295, which no call leaves, counts as full. A tally takes one call at a
-  ! time, for different members too: a call writes all sixteen counters.
+  ! time, for different members too.
   function dlm_tally_add(tally, member, updates) result(answer)
     type(dlm_tally), intent(inout) :: tally
     integer(dlm_size), intent(in) :: member, updates

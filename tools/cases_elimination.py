@@ -12,12 +12,12 @@ A request: HEAD words of four bytes, then the lists of LISTS, numbers in two byt
 and right side as the eight bytes of an f64; all low byte first.
 """
 import math
-import os
 import random
 import struct
 import sys
 
 import cases_limit
+from cases_files import write_files
 from cases_patterns import FIELDS, flat, joining, shape, shared_with_earlier, strip_with_steps_between, together
 from cases_steps import joined, sharing_otherwise
 from dense_program import Dense
@@ -447,11 +447,7 @@ def main():
     add_together(cases, rng)
     plans = add_plans_before_5(cases, random.Random(19841986))
     around, stopped = add_around_limit(cases, random.Random(19841987))
-    crate = os.path.join(os.path.dirname(os.path.abspath(__file__)), "..", "crates", "cases_elimination")
-    with open(os.path.join(crate, "stdin"), "wb") as file:
-        file.write(cases.bytes)
-    with open(os.path.join(crate, "stdout"), "w", encoding="ascii") as file:
-        file.write("\n".join(cases.lines) + "\n")
+    write_files("cases_elimination", cases.bytes, "\n".join(cases.lines) + "\n")
     print(f"{cases.count} requests; finished {cases.finished}; refused {dict(sorted(cases.answers.items()))}; "
           f"steps of 13 {sorted(cases.steps[13])}, of 14 {sorted(cases.steps[14])}; "
           f"{len(sides)} pairs of what a row is to L and to U, each at {min(sides.values())} steps; "

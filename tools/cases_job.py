@@ -11,18 +11,17 @@ time.
 stdin holds for each job its length, two bytes, low byte first, and its bytes.
 stdout holds for each job a line with its number, then the answer.
 """
-import os
 import random
 import struct
 import sys
 
 import cases_limit
+from cases_files import path_of, write_files
 from cases_patterns import FIELDS, chained, fixed_shapes, grid, shape, sparse
 from cases_steps import sharing_otherwise
 from dense_program import Dense
 from job_bytes import Fields, Row, bits_of, write
 
-FOLDER = os.path.join(os.path.dirname(os.path.abspath(__file__)), "..", "crates", "cases_job")
 REACHABLE = [1, 3, 4, 5, 7, 8] + list(range(10, 19))
 ROOM, MOST_BYTES = 2048, 16384
 
@@ -370,9 +369,9 @@ def longest(cases, rng):
 
 def recorded():
     """The recorded jobs with their answers, as the files have them."""
-    with open(os.path.join(FOLDER, "stdin"), "rb") as file:
+    with open(path_of("cases_job", "stdin"), "rb") as file:
         data = file.read()
-    with open(os.path.join(FOLDER, "stdout")) as file:
+    with open(path_of("cases_job", "stdout")) as file:
         parts = ("\n" + file.read()).split("\njob ")[1:]
     at, jobs = 0, []
     while at < len(data):
@@ -400,10 +399,8 @@ def main():
     ends_shared(cases, random.Random(8445))
     around_limit(cases, random.Random(8446))
     assert sorted(cases.numbers) == [0] + REACHABLE, sorted(cases.numbers)
-    with open(os.path.join(FOLDER, "stdin"), "wb") as file:
-        file.write(b"".join(struct.pack("<H", len(text)) + text for text in cases.jobs))
-    with open(os.path.join(FOLDER, "stdout"), "w") as file:
-        file.write("".join(f"job {i}\n{answer}" for i, answer in enumerate(cases.answers, 1)))
+    write_files("cases_job", b"".join(struct.pack("<H", len(text)) + text for text in cases.jobs),
+                "".join(f"job {i}\n{answer}" for i, answer in enumerate(cases.answers, 1)))
     steps = {number: sorted(found) for number, found in sorted(cases.steps.items()) if number in (7, 8, 13, 14)}
     print(f"{len(cases.jobs)} jobs; answers by number (0: finished) {dict(sorted(cases.numbers.items()))}; steps {steps}; "
           + "; ".join(f"otherwise without {name}: {sum(changed.values())}, by that answer and ours {dict(sorted(changed.items()))}"

@@ -12,14 +12,13 @@ before the call, the eight bytes of an f64, low byte first.
 """
 import collections
 import itertools
-import os
 import random
 import struct
 import sys
 
+from cases_files import write_files
 from dense_program import OFFSET_BYTES, Dense
 
-FOLDER = os.path.join(os.path.dirname(os.path.abspath(__file__)), "..", "crates", "cases_offsets")
 LARGEST, LONGEST = 1_295_999_999, 32
 SECOND, MINUTE, DEGREE = 1_000, 60_000, 3_600_000
 INF, NAN = float("inf"), float("nan")
@@ -238,10 +237,7 @@ def main():
     # the last request asks for a longer store than the program has: it ends the program
     cases.bytes += b"W" + bytes([LONGEST + 1]) + bytes(9)
     cases.lines.append("bad request")
-    with open(os.path.join(FOLDER, "stdin"), "wb") as file:
-        file.write(cases.bytes)
-    with open(os.path.join(FOLDER, "stdout"), "w", encoding="ascii") as file:
-        file.write("".join(line + "\n" for line in cases.lines))
+    write_files("cases_offsets", cases.bytes, "\n".join(cases.lines) + "\n")
     print(f"{count} requests; answers by call and number (0: granted) {dict(sorted(cases.answers.items()))}")
 
 

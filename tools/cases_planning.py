@@ -12,11 +12,11 @@ A request is words of two bytes, low byte first: most, n, the lengths of the row
 starts, the columns and the stores (STORES below, in that order), then the row
 starts and the columns.
 """
-import os
 import random
 import struct
 import sys
 
+from cases_files import write_files
 from cases_patterns import (FIELDS, chained, fixed_shapes, flat, grid, joining, near_strip, shape, shared_with_earlier, sparse, strip_with_steps_between,
                             together)
 from cases_steps import joined, may_miss_end, sharing_otherwise, store_sizes, ways
@@ -396,11 +396,7 @@ def main():
     # the last request asks for more columns than the program has: it ends the program
     cases.words += [1024, 1, 2, 16401] + [1] * 12
     cases.lines.append("bad request")
-    folder = os.path.join(os.path.dirname(os.path.abspath(__file__)), "..", "crates", "cases_planning")
-    with open(os.path.join(folder, "stdin"), "wb") as file:
-        file.write(struct.pack(f"<{len(cases.words)}H", *cases.words))
-    with open(os.path.join(folder, "stdout"), "w") as file:
-        file.write("\n".join(cases.lines) + "\n")
+    write_files("cases_planning", struct.pack(f"<{len(cases.words)}H", *cases.words), "\n".join(cases.lines) + "\n")
     print(f"{cases.count} cases; rows that join the list before: {short}; on rows met together: {many}; "
           f"{len(sides)} pairs of what a row is to L and to U, each at {min(sides.values())} steps; "
           f"on lists that share with the end of the store: {ends}; otherwise by document 01 alone: {sum(cases.changed.values())} requests on "

@@ -9,14 +9,13 @@ stdout of the crate are written anew; the seed is fixed, so that they come out t
 A request: "Z" for a record made with zeros, or "A" for a call, and two numbers of eight bytes, low byte first: of a call the member and the updates.
 """
 import collections
-import os
 import random
 import struct
 import sys
 
+from cases_files import write_files
 from dense_program import Dense
 
-FOLDER = os.path.join(os.path.dirname(os.path.abspath(__file__)), "..", "crates", "cases_tally")
 MEMBERS, LARGEST, LARGEST_NUMBER = range(1, 17), 2 ** 32 - 1, 2 ** 64 - 1
 # beside 1 to 16, and numbers that would be 0, 1, 16 or 17 in 8, 16, 32 or 63 bits
 NO_MEMBERS = (0, 17, 18, 31, 32, 128, 255, *(2 ** bits + low for bits in (8, 16, 32, 63) for low in (0, 1, 16, 17)), LARGEST_NUMBER - 15, LARGEST_NUMBER)
@@ -121,10 +120,7 @@ def main():
     # the last request is cut short: it ends the program
     cases.bytes += b"A" + bytes(15)
     cases.lines.append("bad request")
-    with open(os.path.join(FOLDER, "stdin"), "wb") as file:
-        file.write(cases.bytes)
-    with open(os.path.join(FOLDER, "stdout"), "w", encoding="ascii") as file:
-        file.write("".join(line + "\n" for line in cases.lines))
+    write_files("cases_tally", cases.bytes, "\n".join(cases.lines) + "\n")
     print(f"{sum(cases.answers.values())} calls on {cases.lines.count('record' + ' 0' * 16)} records; answers by number (0: granted) {dict(sorted(cases.answers.items()))}")
 
 
