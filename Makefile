@@ -3,7 +3,7 @@
 #   make library       the archive, proved first                         target/staticlib/libdalumiveth.a
 #   make shared        the same functions as a shared object             target/libdalumiveth.so
 #   make examples      the examples in C and Fortran, compared with what they must print
-#   make test-c        header and library from C, C++ and Fortran: fixed calls, random systems, offsets and tallies
+#   make test-c        header and library from C, C++ and Fortran: fixed calls, random systems, offsets, tallies and test loads
 #   make test-python   the Python module (PYTHON=path of a Python with numpy)
 #   make test-tools    the program and the tools of tools/, once `rt check program` has built the program
 #   make bench         times beside other solvers

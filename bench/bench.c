@@ -4,6 +4,7 @@
      bench --markdown    the same as Markdown
      bench --growth      how cost grows with n: lines "series n ours square", in microseconds
      bench --quick       small patterns and few repetitions, to see that everything works
+     bench --load 7,256,30    one row of the table, for the test load of that SEED,N,D
 
    Our solutions, updates and pivot rows have to be those of the square in C, bit for bit; the others' have to be near. */
 #include "ours.h"
@@ -196,10 +197,10 @@ static void compare(struct bed *b, const char *name)
     }
 }
 
-static void lay(struct bed *b, const struct job *j)
+static void lay(struct bed *b, struct pattern pattern)
 {
     memset(b, 0, sizeof *b);
-    b->pattern = pattern_make(j->kind, j->size, j->width, j->dominant);
+    b->pattern = pattern;
     ours_prepare(&b->ours, &b->pattern);
     b->x = room(b->pattern.n, sizeof(double));
     for (int s = 0; s < SOLVERS; s++)
@@ -293,7 +294,7 @@ static void do_jobs(const struct job *jobs, size_t count, int markdown, int quic
     for (size_t j = 0; j < count; j++) {
         if (quick && !jobs[j].quick)
             continue;
-        lay(&b, &jobs[j]);
+        lay(&b, pattern_make(jobs[j].kind, jobs[j].size, jobs[j].width, jobs[j].dominant));
         compare(&b, *jobs[j].name ? jobs[j].name : jobs[j].series);
         measure(&b, quick ? 1 : PASSES, jobs[j].series ? OTHERS + SQUARE + 1 : CALLS);
         if (jobs[j].series)
@@ -304,21 +305,41 @@ static void do_jobs(const struct job *jobs, size_t count, int markdown, int quic
     }
 }
 
+static void do_load(const char *name, int markdown, int quick)
+{
+    static struct bed b;
+    lay(&b, pattern_of_load(name));
+    compare(&b, name);
+    measure(&b, quick ? 1 : PASSES, CALLS);
+    print_head(markdown);
+    print_row(&b, name, markdown);
+    clear(&b);
+}
+
 int main(int count, char **words)
 {
     int markdown = 0, growth = 0, quick = 0;
+    const char *load = NULL;
     for (int i = 1; i < count; i++) {
         int known = 0;
+        if (strcmp(words[i], "--load") == 0 && i + 1 < count) {
+            load = words[++i];
+            continue;
+        }
         known |= strcmp(words[i], "--markdown") == 0 ? markdown = 1 : 0;
         known |= strcmp(words[i], "--growth") == 0 ? growth = 1 : 0;
         known |= strcmp(words[i], "--quick") == 0 ? quick = 1 : 0;
         if (!known) {
-            fprintf(stderr, "usage: bench [--markdown | --growth] [--quick]\n");
+            fprintf(stderr, "usage: bench [--markdown | --growth] [--quick] [--load SEED,N,D]\n");
             return 2;
         }
     }
     if (growth) {
         do_jobs(growth_jobs, sizeof growth_jobs / sizeof *growth_jobs, 0, quick);
+        return 0;
+    }
+    if (load) {
+        do_load(load, markdown, quick);
         return 0;
     }
     print_head(markdown);

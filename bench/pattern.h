@@ -13,6 +13,7 @@ struct pattern {
 
 /* `size` is n, for a grid its side; `width` is the half-width of a band and what a random row has beside its diagonal. */
 struct pattern pattern_make(enum kind kind, size_t size, size_t width, int dominant);
+struct pattern pattern_of_load(const char *name); /* SEED,N,D: the test load of document 02's ticket 6, or the program ends */
 void pattern_free(struct pattern *p);
 void *room(size_t count, size_t size); /* zeros, or the program ends */
 #endif

@@ -297,7 +297,7 @@ static void test_sentences(void)
 {
     size_t number;
     for (number = 0; number <= 40; number++)
-        expect((strcmp(dlm_sentence(number), dlm_sentence(SIZE_MAX)) != 0) == (number <= 19 || (number >= 27 && number <= 29)),
+        expect((strcmp(dlm_sentence(number), dlm_sentence(SIZE_MAX)) != 0) == (number <= 19 || number == 23 || (number >= 27 && number <= 29)),
                "every refusal has a sentence, and no other number");
     expect(strcmp(dlm_sentence(DLM_DIAGONAL), "a row lacks its diagonal") == 0, "the sentence of 5");
     expect(strcmp(dlm_sentence(DLM_NO_PIVOT), "no row from the step on, or not the listed row, has an entry of magnitude at least 2^-1022 in the "

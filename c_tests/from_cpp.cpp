@@ -1,6 +1,7 @@
-// The header in C++, with stores of the caller's own: the four fields of document 01, and an offset written and read.
+// The header in C++, with stores of the caller's own: the four fields of document 01, an offset written and read, a test load planned and run.
 #include "dalumiveth.h"
 
+#include <algorithm>
 #include <cstdio>
 #include <string>
 #include <vector>
@@ -57,6 +58,36 @@ bool offset_returns(double value, const std::string &text)
     return written.refusal == DLM_NONE && out == text && read.refusal == DLM_NONE && read.whole == written.whole && read.value == value;
 }
 
+// Whether the header's own stores get the same load, and zeros with 23.
+bool load_is_made_again(uint32_t seed, size_t n, size_t d, const dlm_load &load)
+{
+    dlm_load again;
+    bool good = dlm_load_allocate(&again, n) == 1 && dlm_make_load(seed, n, d, &again).refusal == DLM_NONE;
+    good = good && again.n == n && again.entries == load.entries && std::equal(load.values.at, load.values.at + load.entries, again.values.at);
+    good = good && dlm_make_load(seed, n, 0, &again).refusal == DLM_NO_DIVISOR && again.n == 0 && again.entries == 0 && again.values.at[0] == 0;
+    dlm_load_free(&again);
+    return good;
+}
+
+// A load in vectors, planned and run.
+bool load_is_run(uint32_t seed, size_t n, size_t d)
+{
+    std::vector<size_t> starts, columns;
+    std::vector<double> values, right;
+    dlm_load load{0, lent(starts, n + 1), lent(columns, DLM_MOST_ENTRIES), lent(values, DLM_MOST_ENTRIES), lent(right, n), 0};
+    bool good = dlm_make_load(seed, n, d, &load).refusal == DLM_NONE && load.n == n && columns[load.entries - 1] == n;
+    good = good && load_is_made_again(seed, n, d, load);
+    const dlm_pattern pattern = dlm_pattern_of_load(&load);
+    const dlm_system system = dlm_system_of_load(&load);
+    const dlm_sizes sizes = dlm_sizes_for(n, load.entries, nullptr);
+    Stores stores;
+    dlm_plan plan = plan_stores(stores, sizes);
+    dlm_work work = work_stores(stores, sizes);
+    dlm_factor factor = factor_stores(stores, sizes);
+    good = good && dlm_make_plan(&pattern, &plan, &work).refusal == DLM_NONE;
+    return good && dlm_run_largest(&pattern, &plan, &system, dlm_whole(), &factor, &work).refusal == DLM_NONE;
+}
+
 } // namespace
 
 int main()
@@ -82,6 +113,7 @@ int main()
     good = good && dlm_tally_add(&tally, 16, factor.updates).refusal == DLM_NONE && tally.counters[15] == 3 && tally.counters[0] == 0;
     good = good && dlm_tally_add(&tally, 17, 1).refusal == DLM_NO_MEMBER && dlm_tally_add(&tally, 16, UINT32_MAX).refusal == DLM_TALLY_FULL;
     good = good && offset_returns(-45296789, "-012 34 56.789") && dlm_read_offset("+360 00 00.000", DLM_OFFSET_BYTES).refusal == DLM_OFFSET_TEXT;
-    std::printf("%s\n", good ? "the four fields and an offset from C++: right" : "the four fields and an offset from C++: wrong");
+    good = good && load_is_run(UINT32_MAX, 30, 5);
+    std::printf("%s\n", good ? "the four fields, an offset and a test load from C++: right" : "the four fields, an offset and a test load from C++: wrong");
     return good ? 0 : 1;
 }

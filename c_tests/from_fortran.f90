@@ -24,6 +24,10 @@ program from_fortran
   call test_written_offsets()
   call test_refused_offsets()
   call test_offset_stores()
+  call test_loads()
+  call test_large_seeds()
+  call test_refused_loads()
+  call test_load_stores()
   print '(i0, a, i0, a)', tried, " tried, ", wrong, " wrong"
   if (wrong /= 0) stop 1
 
@@ -309,5 +313,100 @@ contains
     answer = 7
     number = dalumiveth_write_offset(-2.0_dlm_real, out, 14_dlm_size, answer, 3_dlm_size)
     call expect(number == 0 .and. all(answer == [0, 0, 1, 7, 7, 7]) .and. out(1:14) == "-000 00 00.002", "a shorter answer")
+  end subroutine
+
+  ! Document 02, ticket 6: a load as it was worked out elsewhere, and one that is planned and run.
+  subroutine test_loads()
+    type(dlm_load) :: load
+    type(dlm_plan) :: own_plan
+    call expect(is(dlm_make_load(1984_dlm_size, 5_dlm_size, 3_dlm_size, load), 0, 0), "the load of seed 1984")
+    call expect(load%pattern%n == 5 .and. all(load%pattern%starts == [0, 3, 4, 5, 6, 8]), "its row starts")
+    call expect(size(load%pattern%columns) == 8 .and. size(load%values) == 8, "and how many entries it has")
+    call expect(all(load%pattern%columns == [1, 3, 4, 2, 3, 4, 3, 5]), "its columns")
+    call expect(all(load%values == [74, 15, -826, 189, 291, 626, 644, 495]), "its values")
+    call expect(all(load%right == [962, 734, 298, -947, 855]), "its right side")
+    call expect(is(dlm_make_load(7_dlm_size, 128_dlm_size, 1_dlm_size, load), 0, 0), "a load with every place of 128 rows")
+    call expect(size(load%pattern%columns) == 16384 .and. load%pattern%starts(129) == 16384, "16,384 entries")
+    call expect(is(dlm_make_load(7_dlm_size, 40_dlm_size, 6_dlm_size, load), 0, 0), "a load for a plan")
+    call expect(is(dlm_make_plan(load%pattern, own_plan, work), 0, 0), "a load is planned")
+    call expect(is(dlm_run_largest(load%pattern, own_plan, load%values, load%right, factor, work), 0, 0), "a load is run")
+    call expect(residual(load) < 1e-6_dlm_real, "and solved")
+  end subroutine
+
+  ! How far the equations of a load are from holding with factor%x.
+  real(dlm_real) function residual(load)
+    type(dlm_load), intent(in) :: load
+    integer(dlm_size) :: i, from, to
+    residual = 0
+    do i = 1, load%pattern%n
+      from = load%pattern%starts(i) + 1
+      to = load%pattern%starts(i + 1)
+      residual = max(residual, abs(sum(load%values(from:to) * factor%x(load%pattern%columns(from:to))) - load%right(i)))
+    end do
+  end function
+
+  ! Seeds above 2147483647, where a signed number of 32 bits ends, and the same bits as a negative number. One row is two draws.
+  subroutine test_large_seeds()
+    type(dlm_load) :: load, other
+    integer(dlm_size), parameter :: one = 1
+    call expect(is(dlm_make_load(4294967295_dlm_size, one, one, load), 0, 0), "the largest seed")
+    call expect(load%values(1) == -679 .and. load%right(1) == 801, "its first two draws")
+    call expect(is(dlm_make_load(-one, one, one, other), 0, 0), "its bits in a signed number")
+    call expect(load%values(1) == other%values(1) .and. load%right(1) == other%right(1), "mean the same seed")
+    call expect(is(dlm_make_load(3281063054_dlm_size, 2 * one, -one, load), 0, 0), "a d past 63 bits")
+    call expect(all(load%pattern%columns == [1, 2, 2]), "by which a draw of 0 divides")
+    call expect(is(dlm_make_load(int(-1013904242, dlm_size), 2 * one, 4294967297_dlm_size, load), 0, 0), "a d past 32 bits")
+    call expect(all(load%pattern%columns == [1, 2, 2]), "the same, and the same seed")
+  end subroutine
+
+  subroutine test_refused_loads()
+    integer(dlm_size), parameter :: no_rows(5) = [integer(dlm_size) :: 0, -1, 1025, 4294967297_dlm_size, huge(0_dlm_size)]
+    integer :: which
+    do which = 1, size(no_rows)
+      call expect_refused_load(no_rows(which), 3_dlm_size, 1)
+      call expect_refused_load(no_rows(which), 0_dlm_size, 1)
+    end do
+    call expect_refused_load(1_dlm_size, 0_dlm_size, 23)
+    call expect_refused_load(1024_dlm_size, 0_dlm_size, 23)
+    call expect_refused_load(129_dlm_size, 1_dlm_size, 1)
+    call expect(dlm_sentence(23_dlm_size) /= dlm_sentence(22_dlm_size), "23 has a sentence")
+  end subroutine
+
+  ! A load that was made before, so that its stores are not zeros.
+  subroutine expect_refused_load(n, d, number)
+    integer(dlm_size), intent(in) :: n, d
+    integer, intent(in) :: number
+    type(dlm_load) :: load
+    type(dlm_plan) :: none
+    call expect(is(dlm_make_load(7_dlm_size, 5_dlm_size, 1_dlm_size, load), 0, 0), "a load")
+    call expect(is(dlm_make_load(7_dlm_size, n, d, load), number, 0), "a load is refused")
+    call expect(load%pattern%n == 0 .and. size(load%pattern%columns) == 0 .and. size(load%values) == 0, "and has no entries")
+    call expect(all(load%pattern%starts == 0) .and. all(load%right == 0), "and zeros")
+    call expect(is(dlm_make_plan(load%pattern, none, work), 1, 0), "what is left of it is 1")
+  end subroutine
+
+  ! The exported function: a store of another length is 6, after 1 for n and 23, before 1 for the entries.
+  subroutine test_load_stores()
+    integer(dlm_size), allocatable :: starts(:), columns(:)
+    real(dlm_real), allocatable :: reals(:), rights(:)
+    integer(dlm_size) :: lengths(4), number, answer(4)
+    integer :: store
+    allocate(starts(131), columns(16385), reals(16385), rights(130))
+    do store = 1, 4
+      lengths = [130, 16384, 16384, 129]
+      lengths(store) = lengths(store) + 1
+      starts = 9
+      columns = 9
+      reals = 9
+      rights = 9
+      number = dalumiveth_load(7_c_int32_t, 129_dlm_size, 1_dlm_size, starts, lengths(1), columns, lengths(2), &
+          reals, lengths(3), rights, lengths(4), answer, 4_dlm_size)
+      call expect(number == 6 .and. all(answer == [6, 0, 0, 0]), "a store with a place too many is 6 before 1")
+      call expect(all(starts(1:lengths(1)) == 0) .and. all(columns(1:lengths(2)) == 0), "and zeros")
+      call expect(all(reals(1:lengths(3)) == 0) .and. all(rights(1:lengths(4)) == 0), "in all four")
+      number = dalumiveth_load(7_c_int32_t, 129_dlm_size, 0_dlm_size, starts, lengths(1), columns, lengths(2), &
+          reals, lengths(3), rights, lengths(4), answer, 4_dlm_size)
+      call expect(number == 23, "23 before 6")
+    end do
   end subroutine
 end program

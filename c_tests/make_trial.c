@@ -179,6 +179,22 @@ void make_limit_trial(trial *t, size_t n)
     make_system(t, n, AROUND_LIMIT, draw(3) == 0 ? (size_t)SMALL_WHOLE : (size_t)AROUND_LIMIT);
 }
 
+void make_given_trial(trial *t, const dlm_pattern *pattern, const dlm_system *system)
+{
+    memset(t, 0, sizeof *t);
+    t->size = t->n = pattern->n;
+    resize_numbers(&t->starts, pattern->starts_length);
+    resize_numbers(&t->columns, pattern->entries);
+    resize_reals(&t->values, system->values_length);
+    resize_reals(&t->right, system->right_length);
+    memcpy(t->starts.at, pattern->starts, pattern->starts_length * sizeof *pattern->starts);
+    memcpy(t->columns.at, pattern->columns, pattern->entries * sizeof *pattern->columns);
+    memcpy(t->values.at, system->values, system->values_length * sizeof *system->values);
+    memcpy(t->right.at, system->right, system->right_length * sizeof *system->right);
+    make_work(&t->work, t->n);
+    make_plan_stores(&t->plan, t->n);
+}
+
 void free_trial(trial *t)
 {
     dlm_numbers_free(&t->starts);
@@ -203,6 +219,11 @@ void make_run(trial *t, const plain_plan *plain)
         t->rows.at[k - 1] = run.pivots[k] != 0 && draw(t->around_limit ? 6 : 60) != 0 ? run.pivots[k] : k + draw(t->size - k + 1);
     t->listed = draw(2) == 0;
     t->extent = draw(3) == 0 ? dlm_cut(draw(t->size + 1)) : dlm_whole();
+    make_results(t, plain);
+}
+
+void make_results(trial *t, const plain_plan *plain)
+{
     resize_reals(&t->factor.l, plain->l.slots[t->size] + draw(3));
     resize_reals(&t->factor.u, plain->u.slots[t->size] + draw(3));
     resize_reals(&t->factor.d, t->size);

@@ -5,8 +5,10 @@
 
 #include "dalumiveth.h"
 
-/* The largest n of a trial that gets as far as planning. */
-enum { PLAIN_MOST = 120 };
+/* The largest n of a trial that gets as far as planning. Its square is cleared for every run, so that it is small where there are many. */
+#ifndef PLAIN_MOST
+#define PLAIN_MOST 120
+#endif
 
 /* Document 02, ticket 14: "A pivot must have magnitude at least 2 to the power -1022". */
 #define PLAIN_LEAST_PIVOT 0x1p-1022
@@ -29,8 +31,8 @@ typedef struct plain_plan {
     plain_side u;
 } plain_plan;
 
-/* How the pivot rows are chosen. */
-typedef enum plain_choice { BY_LARGEST, BY_LIST, AT_RANDOM } plain_choice;
+/* How the pivot rows are chosen; at random: any row that serves, or any with at least half the largest magnitude, under which numbers hardly grow. */
+typedef enum plain_choice { BY_LARGEST, BY_LIST, AT_RANDOM, NEAR_LARGEST } plain_choice;
 
 typedef struct plain_run {
     dlm_answer answer;
@@ -53,8 +55,8 @@ void plain_make_plan(const dlm_pattern *pattern, plain_plan *plan);
 /* Refusals 7 and 8 for stores with room for so many subscripts. */
 dlm_answer plain_judge_room(const plain_plan *plan, size_t l_room, size_t u_room);
 
-/* Elimination and solution of a system that passes 1 to 12, with 13 and 14. `rows` is read by BY_LIST alone; `draw` gives AT_RANDOM its
-   numbers. */
+/* Elimination and solution of a system that passes 1 to 12, with 13 and 14. `rows` is read by BY_LIST alone; `draw` gives AT_RANDOM
+   and NEAR_LARGEST their numbers. */
 void plain_eliminate(const dlm_pattern *pattern, const dlm_system *system, plain_choice choice, const size_t *rows, size_t (*draw)(size_t),
                      dlm_extent extent, plain_run *run);
 

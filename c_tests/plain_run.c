@@ -37,16 +37,27 @@ static size_t largest_row(const plain_run *run, size_t n, size_t k)
     return best;
 }
 
-/* One of the rows that serve; 0 if there is none. */
-static size_t random_row(const plain_run *run, size_t n, size_t k, size_t (*draw)(size_t))
+/* One of the rows that serve and have at least this magnitude; 0 if there is none. */
+static size_t random_row(const plain_run *run, size_t n, size_t k, double least, size_t (*draw)(size_t))
 {
     size_t i;
     size_t found = 0;
     size_t chosen = 0;
     for (i = k; i <= n; i++)
-        if (serves(run->square[i][k]) && draw(++found) == 0)
+        if (serves(run->square[i][k]) && fabs(run->square[i][k]) >= least && draw(++found) == 0)
             chosen = i;
     return chosen;
+}
+
+/* Where no row serves, the largest is row 0 of the square, which is not used and holds zeros. */
+static size_t chosen_row(const plain_run *run, size_t n, size_t k, plain_choice choice, const size_t *rows, size_t (*draw)(size_t))
+{
+    switch (choice) {
+    case BY_LIST: return rows[k - 1];
+    case AT_RANDOM: return random_row(run, n, k, 0, draw);
+    case NEAR_LARGEST: return random_row(run, n, k, fabs(run->square[largest_row(run, n, k)][k]) / 2, draw);
+    default: return largest_row(run, n, k);
+    }
 }
 
 /* Whether some row from `from` to `to` has an entry in column k that is not zero and does not serve. */
@@ -134,7 +145,7 @@ void plain_eliminate(const dlm_pattern *pattern, const dlm_system *system, plain
     size_t k;
     load(pattern, system, run);
     for (k = 1; k <= steps; k++) {
-        size_t p = choice == BY_LIST ? rows[k - 1] : choice == BY_LARGEST ? largest_row(run, n, k) : random_row(run, n, k, draw);
+        size_t p = chosen_row(run, n, k, choice, rows, draw);
         int faint = has_faint(run, k, n, k);
         int asked_faint = choice == BY_LIST ? has_faint(run, p, p, k) : faint;
         size_t number = step(run, n, k, p);

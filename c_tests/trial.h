@@ -27,15 +27,19 @@ void make_trial(trial *t, size_t n);
 
 /* One without faults whose numbers lie around the least magnitude of a pivot. */
 void make_limit_trial(trial *t, size_t n);
+
+/* One without faults on a given system, which is copied. */
+void make_given_trial(trial *t, const dlm_pattern *pattern, const dlm_system *system);
 void free_trial(trial *t);
 
 /* Faults 1 to 5 in the pattern; 6 to 8 in the stores of a plan. `plain` is the plan without faults. */
 void spoil_pattern(trial *t);
 void spoil_plan_stores(trial *t, const plain_plan *plain);
 
-/* A row list that the values allow (or, now and then, any list that 12 lets pass; around the limit often), slots as the plan counts them or
-   some more. */
+/* A row list that the values allow (or, now and then, any list that 12 lets pass; around the limit often), a whole run or a cut one, and
+   result stores: slots as the plan counts them or some more. */
 void make_run(trial *t, const plain_plan *plain);
+void make_results(trial *t, const plain_plan *plain);
 
 /* Faults 6 and 9 to 12 before a run. 13 and 14 are faults of the values, which make_trial sees to. */
 void spoil_run(trial *t);

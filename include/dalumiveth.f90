@@ -5,7 +5,7 @@
 !              and in C: a row start 0 means the first column number, which is columns(1) here.
 !   Kinds      Numbers are integer(dlm_size) (C's size_t; every legal one is small), reals are real(dlm_real) (C's double).
 !   Stores     Allocatable. The caller allocates those of the pattern; dlm_make_plan (also one that refuses) and the runs give the others
-!              the lengths that they need. A run wants a plan that dlm_make_plan has seen.
+!              the lengths that they need, and so does dlm_make_load those of a load. A run wants a plan dlm_make_plan has seen.
 !   Refusals   answer%refusal is 0, or the number of a refusal: then all results are zero, and dlm_sentence has its sentence. A tally
 !              then stays as it was.
 !   Proved     The functions dalumiveth_*, which the library exports, for all inputs. The procedures dlm_* of this module put types
@@ -15,20 +15,22 @@
 !
 !   answer = dlm_make_plan(pattern, plan, work)
 !   answer = dlm_run_largest(pattern, plan, values, right, factor, work)                  the solution is factor%x
+!
+! Or take a test load that a seed names: dlm_make_load(seed, n, d, load) makes load%pattern, load%values and load%right.
 module dalumiveth
   use, intrinsic :: iso_c_binding, only: c_size_t, c_double, c_int32_t, c_int8_t, c_char
   implicit none
   private
   public :: dlm_make_plan, dlm_verify_plan, dlm_run_largest, dlm_run_listed, dlm_tally_add, dlm_read_offset, dlm_write_offset
-  public :: dlm_sentence
+  public :: dlm_make_load, dlm_sentence
   public :: dalumiveth_plan, dalumiveth_verify, dalumiveth_run, dalumiveth_tally_add, dalumiveth_job
-  public :: dalumiveth_read_offset, dalumiveth_write_offset
+  public :: dalumiveth_read_offset, dalumiveth_write_offset, dalumiveth_load
 
   integer, parameter, public :: dlm_size = c_size_t, dlm_real = c_double
   integer, parameter, public :: dlm_members = 16                                  ! of a tally: their numbers are 1 to 16
   integer, parameter, public :: dlm_offset_bytes = 14                             ! of an offset's text
   integer(dlm_size), parameter, public :: dlm_most_offset = 1295999999_dlm_size   ! milliarcseconds: +359 59 59.999
-  integer(dlm_size), parameter :: most_rows = 1024
+  integer(dlm_size), parameter :: most_rows = 1024, most_entries = 16384
 
   ! Where entries may stand, row after row.
   type, public :: dlm_pattern
@@ -74,6 +76,12 @@ module dalumiveth
     integer(dlm_size) :: refusal = 0                   ! 0: none
     integer(dlm_size) :: whole = 0                     ! -dlm_most_offset to dlm_most_offset; 0 after a refusal
     real(dlm_real) :: value = 0                        ! the real equal to `whole`; never -0
+  end type
+
+  ! A test load: a pattern, its values and a right side that a seed names; whole numbers from -1,000 to 1,000.
+  type, public :: dlm_load
+    type(dlm_pattern) :: pattern                       ! its n is 0 after a refusal, which no call takes
+    real(dlm_real), allocatable :: values(:), right(:) ! one for each of pattern%columns, and n
   end type
 
   ! The exported functions. Each store is followed by its length; `answer` receives number, step and values.
@@ -172,6 +180,18 @@ module dalumiveth
       integer(c_size_t), value :: out_length, answer_length
       character(kind=c_char), intent(inout) :: out(*)
       integer(c_size_t), intent(inout) :: answer(*)
+      integer(c_size_t) :: number
+    end function
+
+    ! `seed` has the bits of an unsigned number of 32 bits. `starts` has n+1 places, `columns` and `values` 16,384 each, `right` n,
+    ! else 6. In `answer`: number (0, 1, 23 or 6), step 0, how many entries there are.
+    function dalumiveth_load(seed, n, d, starts, starts_length, columns, columns_length, values, values_length, &
+        right, right_length, answer, answer_length) result(number) bind(c)
+      import :: c_size_t, c_double, c_int32_t
+      integer(c_int32_t), value :: seed
+      integer(c_size_t), value :: n, d, starts_length, columns_length, values_length, right_length, answer_length
+      integer(c_size_t), intent(inout) :: starts(*), columns(*), answer(*)
+      real(c_double), intent(inout) :: values(*), right(*)
       integer(c_size_t) :: number
     end function
   end interface
@@ -282,10 +302,10 @@ contains
     type(dlm_tally), intent(inout) :: tally
     integer(dlm_size), intent(in) :: member, updates
     type(dlm_answer) :: answer
-    integer(dlm_size), parameter :: largest = 4294967295_dlm_size, half = 2147483648_dlm_size
+    integer(dlm_size), parameter :: largest = 4294967295_dlm_size
     integer(dlm_size) :: numbers(3), number
     integer(c_int32_t) :: bits(dlm_members)
-    bits = int(modulo(modulo(tally%counters, 2 * half) + half, 2 * half) - half, c_int32_t)
+    bits = lowest_32_bits(tally%counters)
     number = dalumiveth_tally_add(bits, int(dlm_members, dlm_size), member, updates, numbers, 3_dlm_size)
     answer = dlm_answer(number, numbers(2))
     if (number /= 0) return
@@ -294,6 +314,37 @@ contains
       return
     end if
     tally%counters(member) = numbers(3)
+  end function
+
+  ! Makes the test load of a seed; the same seed, n and d give the same load everywhere. About one place in d is present, and the
+  ! diagonal. The load's stores are given their lengths here, so that 6 cannot come about. Refuses with 1 (n is 0 or above 1,024),
+  ! 23 (d is 0) and 1 (the load would pass 16,384 entries). A seed is a number from 0 to 4294967295, one above 2147483647 too, as in
+  ! 4294967295_dlm_size. Of any other number the lowest 32 bits count: a negative integer of 32 bits means the seed that has its
+  ! bits, so that -1 is 4294967295. A negative d is past 63 bits: only a draw of 0 divides by it.
+  function dlm_make_load(seed, n, d, load) result(answer)
+    integer(dlm_size), intent(in) :: seed, n, d
+    type(dlm_load), intent(inout) :: load
+    type(dlm_answer) :: answer
+    integer(dlm_size) :: rows, numbers(3), number
+    rows = max(0_dlm_size, min(n, most_rows))          ! stores for a refused n are never used
+    call give_numbers(load%pattern%starts, rows + 1)
+    call give_numbers(load%pattern%columns, most_entries)
+    call give_reals(load%values, most_entries)
+    call give_reals(load%right, rows)
+    number = dalumiveth_load(lowest_32_bits(seed), n, d, load%pattern%starts, rows + 1, load%pattern%columns, most_entries, &
+        load%values, most_entries, load%right, rows, numbers, 3_dlm_size)
+    answer = dlm_answer(number, numbers(2))
+    load%pattern%n = merge(n, 0_dlm_size, number == 0)
+    load%pattern%columns = load%pattern%columns(1:numbers(3))
+    load%values = load%values(1:numbers(3))
+  end function
+
+  ! The lowest 32 bits of a number, as the signed number that stands for C's unsigned one.
+  elemental function lowest_32_bits(number) result(bits)
+    integer(dlm_size), intent(in) :: number
+    integer(c_int32_t) :: bits
+    integer(dlm_size), parameter :: half = 2147483648_dlm_size
+    bits = int(modulo(modulo(number, 2 * half) + half, 2 * half) - half, c_int32_t)
   end function
 
   ! Reads an offset such as +012 34 56.789. Every character counts, blanks behind it too: a longer variable is passed as trim(text).
@@ -336,8 +387,8 @@ contains
     case (3); sentence = "a column is outside 1 to n"
     case (4); sentence = "the columns of a row do not ascend strictly"
     case (5); sentence = "a row lacks its diagonal"
-    case (6); sentence = "a starts store of the plan, a work store, or the store for a job's text, a tally or an offset has a &
-        &wrong length"
+    case (6); sentence = "a starts store of the plan, a work store, or a store for a job's text, a tally, an offset or a &
+        &test load has a wrong length"
     case (7); sentence = "an L subscript does not fit into its store"
     case (8); sentence = "a U subscript does not fit into its store"
     case (9); sentence = "the lent plan is not this pattern's: some count, start or used subscript differs"
@@ -352,6 +403,7 @@ contains
     case (17); sentence = "job: bytes follow Z"
     case (18); sentence = "job: it is over 16,384 bytes"
     case (19); sentence = "the member's sum in the tally would pass 4,294,967,295; the tally stays as it was"
+    case (23); sentence = "the divisor d of a test load is 0"
     case (27); sentence = "the member number is outside 1 to 16; the tally stays as it was"
     case (28); sentence = "the text is not an offset such as +012 34 56.789 (14 bytes, below 360 degrees), or it is minus zero"
     case (29); sentence = "the number of milliarcseconds is not finite or rounds beyond the largest, 1,295,999,999"

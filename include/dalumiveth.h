@@ -10,8 +10,8 @@
  *              gets an answer, a result or a refusal with its number. Inputs are never changed. In the functions dlm_* a NULL pointer
  *              is a store without places, whatever its length says.
  *   Refusals   After a refusal every result store is zero throughout. Work stores are zero after every call. A result store that is
- *              longer than needed has zeros behind the result; where one length is given (a job's text, an offset), another is 6. A tally is
- *              no result store: a refusal leaves it as it was.
+ *              longer than needed has zeros behind the result; where one length is given (a job's text, an offset, a test load), another is 6.
+ *              A tally is no result store: a refusal leaves it as it was.
  *   Proved     The functions dalumiveth_*, which the library exports, are proved for all inputs: each number of the answer and each store
  *              afterwards, bit for bit; that planned slots suffice for every choice of rows; that every call ends. Their contracts
  *              speak of stores that are valid and do not overlap: no proof sees what a program in C lends.
@@ -27,6 +27,12 @@
  *   dlm_factor_allocate(&factor, &sizes);
  *   answer = dlm_run_largest(&pattern, &plan, &system, dlm_whole(), &factor, &work);          the solution is factor.x
  *   dlm_factor_free(&factor); dlm_work_free(&work); dlm_plan_free(&plan);
+ *
+ * Pattern and system may be a test load that a seed names, the same on every machine (dlm_load_free gives its stores back):
+ *
+ *   dlm_load_allocate(&load, n);
+ *   answer = dlm_make_load(seed, n, d, &load);                                      about one place in d is present, and the diagonal
+ *   pattern = dlm_pattern_of_load(&load); system = dlm_system_of_load(&load);
  *
  * A plan serves every run on its pattern. Different threads may call at the same time with stores of their own (a plan that is only
  * run may be shared): the library keeps nothing. A tally takes one call at a time, for different members too, since a call writes all
@@ -59,14 +65,14 @@ typedef char dlm_size_t_has_64_bits[sizeof(size_t) == 8 ? 1 : -1];
 
 /* What an answer may say, and no other number. Where no step is named, the answer's step is 0. */
 typedef enum dlm_refusal {
-    DLM_NONE = 0,           /* no refusal: planned, agreed, finished, added, read, written */
+    DLM_NONE = 0,           /* no refusal: planned, agreed, finished, added, read, written, made */
     DLM_LIMITS = 1,         /* n is 0 or above 1,024, or there are more than 16,384 entries */
     DLM_STARTS = 2,         /* the row starts are not n+1, do not begin with 0, fall, or do not end with the number of entries */
     DLM_COLUMN = 3,         /* a column is outside 1 to n */
     DLM_ORDER = 4,          /* the columns of a row do not ascend strictly */
     DLM_DIAGONAL = 5,       /* a row lacks its diagonal */
-    DLM_STORES = 6,         /* a starts store of the plan, a work store, or the store for a job's text, a tally or an offset has another length
-                               than the one given with it below */
+    DLM_STORES = 6,         /* a starts store of the plan, a work store, or a store for a job's text, a tally, an offset or a test load has
+                               another length than the one given with it below */
     DLM_LOWER_ROOM = 7,     /* an L subscript does not fit; the step */
     DLM_UPPER_ROOM = 8,     /* a U subscript does not fit; the step */
     DLM_OTHER_PLAN = 9,     /* the lent plan differs from the pattern's in some count, start or used subscript */
@@ -80,6 +86,7 @@ typedef enum dlm_refusal {
     DLM_JOB_GOES_ON = 17,   /* job: bytes follow Z */
     DLM_JOB_TOO_LONG = 18,  /* job: it is over 16,384 bytes */
     DLM_TALLY_FULL = 19,    /* the member's sum in the tally would pass 4,294,967,295; the tally stays as it was */
+    DLM_NO_DIVISOR = 23,    /* the divisor d of a test load is 0 */
     DLM_NO_MEMBER = 27,     /* the member number is outside 1 to 16; the tally stays as it was */
     DLM_OFFSET_TEXT = 28,   /* the text is not an offset such as +012 34 56.789 (14 bytes, below 360 degrees), or it is minus zero */
     DLM_OFFSET_BEYOND = 29  /* the number of milliarcseconds is not finite or rounds beyond the largest, 1,295,999,999 */
@@ -95,7 +102,7 @@ static inline const char *dlm_sentence(size_t number)
     case 3: return "a column is outside 1 to n";
     case 4: return "the columns of a row do not ascend strictly";
     case 5: return "a row lacks its diagonal";
-    case 6: return "a starts store of the plan, a work store, or the store for a job's text, a tally or an offset has a wrong length";
+    case 6: return "a starts store of the plan, a work store, or a store for a job's text, a tally, an offset or a test load has a wrong length";
     case 7: return "an L subscript does not fit into its store";
     case 8: return "a U subscript does not fit into its store";
     case 9: return "the lent plan is not this pattern's: some count, start or used subscript differs";
@@ -109,6 +116,7 @@ static inline const char *dlm_sentence(size_t number)
     case 17: return "job: bytes follow Z";
     case 18: return "job: it is over 16,384 bytes";
     case 19: return "the member's sum in the tally would pass 4,294,967,295; the tally stays as it was";
+    case 23: return "the divisor d of a test load is 0";
     case 27: return "the member number is outside 1 to 16; the tally stays as it was";
     case 28: return "the text is not an offset such as +012 34 56.789 (14 bytes, below 360 degrees), or it is minus zero";
     case 29: return "the number of milliarcseconds is not finite or rounds beyond the largest, 1,295,999,999";
@@ -219,6 +227,16 @@ typedef struct dlm_sizes {
     size_t l, u, d, x, pivots;                                                 /* factor; l and u may be longer */
 } dlm_sizes;
 
+/* A test load: a pattern, its values and a right side, all of them by a seed. Zeros after a refusal, n and entries too. */
+typedef struct dlm_load {
+    size_t n;             /* rows and columns */
+    dlm_numbers starts;   /* n+1: row starts, as a pattern has them */
+    dlm_numbers columns;  /* 16,384 (DLM_MOST_ENTRIES): column numbers, zeros behind the entries */
+    dlm_reals values;     /* 16,384: a whole number from -1,000 to 1,000 for each column number, zeros behind */
+    dlm_reals right;      /* n: whole numbers from -1,000 to 1,000 */
+    size_t entries;       /* how many */
+} dlm_load;
+
 /* ------------------------------------------------------------------ the exported functions */
 
 /*
@@ -281,6 +299,14 @@ size_t dalumiveth_read_offset(const uint8_t *text, size_t text_length, double *v
    a refusal. answer: number (0, 6 or 29), step 0, 1 where the written number is below zero (else 0), and its size. An `out` of another length
    is 6, whatever the value is; a value that is not finite or rounds beyond 1,295,999,999 is 29. */
 size_t dalumiveth_write_offset(double value, uint8_t *out, size_t out_length, size_t *answer, size_t answer_length);
+
+/* A test load that a seed names. starts: n+1 places; columns and values: 16,384 each (DLM_MOST_ENTRIES); right: n. The diagonal is present, and
+   of the other places those whose draw divides by d without rest, about one in d (docs/CALLS.md has the draws). answer: number (0, 1, 23 or 6),
+   step 0, and how many entries there are; behind them columns and values are zeros. An n of 0 or above 1,024 is 1, whatever d is; a d of 0 is
+   23, whatever the lengths are; then a store of another length is 6; then a load that would pass 16,384 entries is 1. After a refusal all four
+   stores are zeros throughout. */
+size_t dalumiveth_load(uint32_t seed, size_t n, size_t d, size_t *starts, size_t starts_length, size_t *columns, size_t columns_length,
+                       double *values, size_t values_length, double *right, size_t right_length, size_t *answer, size_t answer_length);
 
 /* ------------------------------------------------------------------ lending */
 
@@ -516,6 +542,32 @@ static inline dlm_answer dlm_run_listed(const dlm_pattern *pattern, const dlm_pl
     return dlm_run_by(1, pattern, plan, system, rows, rows_length, extent, factor, work);
 }
 
+/* Makes the test load of a seed, in stores that dlm_load_allocate gives for the same n. The same seed, n and d give the same load everywhere. Refuses
+   with 1 (n), 23, 6 and 1 (too many entries), in this order. A seed has 32 bits: of a larger number C itself passes on the lowest 32. */
+static inline dlm_answer dlm_make_load(uint32_t seed, size_t n, size_t d, dlm_load *load)
+{
+    size_t answer[3] = {0};
+    dalumiveth_load(seed, n, d, DLM_NUMBERS(load->starts), DLM_NUMBERS(load->columns), DLM_REALS(load->values), DLM_REALS(load->right), answer, 3);
+    load->n = answer[0] == 0 ? n : 0;
+    load->entries = answer[2];
+    return dlm_answer_in(answer);
+}
+
+/* A load's pattern, in the load's own stores: they have to live, and no other load may be made in them, as long as it is used. After a
+   refusal its n is 0, which no call takes. */
+static inline dlm_pattern dlm_pattern_of_load(const dlm_load *load)
+{
+    dlm_pattern pattern = dlm_pattern_of(load->n, load->starts.at, load->columns.at, load->entries);
+    pattern.starts_length = load->starts.length;
+    return pattern;
+}
+
+/* Its values and right side, likewise. */
+static inline dlm_system dlm_system_of_load(const dlm_load *load)
+{
+    return dlm_system_of(load->values.at, load->entries, load->right.at, load->right.length);
+}
+
 /* A tally that stays with the caller: a sum of updates for each member, member m's at place m-1. An empty one has zeros, dlm_tally tally = {{0}};
    one that was saved goes on with its sixteen sums in `counters`. */
 typedef struct dlm_tally {
@@ -620,9 +672,9 @@ static inline double dlm_number_at(const dlm_plan *plan, const dlm_factor *facto
 /* ------------------------------------------------------------------ allocation */
 
 /*
- * A pair for each struct: ..._allocate gives every store its length of `sizes`, filled with zeros, and answers 1; if there is no memory
- * it keeps none, leaves stores without places and answers 0. ..._free gives the stores back and leaves stores without places. Callers
- * with stores of their own use neither.
+ * A pair for each struct: ..._allocate gives every store its length of `sizes` (to a load: the length that its n wants), filled with
+ * zeros, and answers 1; if there is no memory it keeps none, leaves stores without places and answers 0. ..._free gives the stores back and
+ * leaves stores without places. Callers with stores of their own use neither.
  */
 
 /* One place at least, so that NULL means that there is no memory. */
@@ -720,6 +772,29 @@ static inline int dlm_factor_allocate(dlm_factor *factor, const dlm_sizes *sizes
     factor->updates = 0;
     if (!all)
         dlm_factor_free(factor);
+    return all;
+}
+
+static inline void dlm_load_free(dlm_load *load)
+{
+    load->n = 0;
+    load->entries = 0;
+    dlm_numbers_free(&load->starts);
+    dlm_numbers_free(&load->columns);
+    dlm_reals_free(&load->values);
+    dlm_reals_free(&load->right);
+}
+
+/* For a load of n rows; for an n that is refused with 1, stores without places. */
+static inline int dlm_load_allocate(dlm_load *load, size_t n)
+{
+    dlm_sizes sizes = dlm_sizes_for(n, DLM_MOST_ENTRIES, NULL);
+    int all = dlm_numbers_allocate(&load->starts, sizes.starts) & dlm_numbers_allocate(&load->columns, sizes.columns) &
+              dlm_reals_allocate(&load->values, sizes.values) & dlm_reals_allocate(&load->right, sizes.right);
+    load->n = 0;
+    load->entries = 0;
+    if (!all)
+        dlm_load_free(load);
     return all;
 }
 

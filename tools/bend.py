@@ -48,7 +48,8 @@ STAGES = ("own", "table", "proof")
 OWN = {"Functions": ["Lists"], "Sets": ["Lists"], "Table": ["Lists"], "Numbers": ["Numbers", "Faint"], "Answer": ["Numbers"], "Square": ["Numbers"], "Text": ["Numbers"],
        "Subscripts": ["Plan"], "Slots": ["Plan"], "PlanCall": ["PlanCall", "LentPlan"],
        "Reference": ["Reference", "Stopping", "Back", "StepParts", "Faint"], "Facts": [], "Closed": [], "Claims": [], "Marked": [],
-       "OffsetReading": ["Offset"], "OffsetRounding": ["Offset"], "OffsetCall": ["Offset"], "Offsets": [], "TallyCalls": ["Tally"], "Tallies": []}
+       "OffsetReading": ["Offset"], "OffsetRounding": ["Offset"], "OffsetCall": ["Offset"], "Offsets": [], "TallyCalls": ["Tally"], "Tallies": [],
+       "Draw": ["Load"], "LoadCall": ["Load"], "Loads": []}
 
 
 class Change:

@@ -1,8 +1,8 @@
 """The dense program of different authorship that document 01 asks for ("other cases are executed and compared"), as the tools that write the cases ask it.
 
-It is a folder with now.py, which knows whole calls by documents 01 and 02, tickets.py, which reads and writes offsets and adds to a tally (document 02, tickets 11 and
-10), and what these import. LANDED says which requests of document 02 have landed; `Dense(FOLDER, share_end=False)` answers as if ticket 5 had not, `Dense(FOLDER, faint=False)` as if
-ticket 14 had not, so that the cases can show where a request's rule makes a difference.
+It is a folder with now.py, which knows whole calls by documents 01 and 02, tickets.py, which reads and writes offsets, adds to a tally and draws test loads (document 02,
+tickets 11, 10 and 6), and what these import. LANDED says which requests of document 02 have landed; `Dense(FOLDER, share_end=False)` answers as if ticket 5 had not,
+`Dense(FOLDER, faint=False)` as if ticket 14 had not, so that the cases can show where a request's rule makes a difference.
 """
 import collections
 import os
@@ -80,6 +80,18 @@ class Dense:
         if answer[0] == "refused":
             return Called(answer, bytes(length))
         return Called(self.read_offset(answer[1]), answer[1])
+
+    # ---- test loads
+
+    def load(self, seed, n, d, lengths):
+        """The answer, granted with the number of entries, and the stores of these lengths: row starts, columns, values, right sides. It gives lists and knows no stores: the
+        zeros behind the entries, and those that a refusal leaves throughout, are said here."""
+        starts, columns, values, right = lengths
+        answer = self.tickets.load(seed, n, d, (columns, values, starts, right))
+        granted = answer[0] == "granted"
+        lists = answer[1] if granted else ([], [], [], [])
+        stores = [places + [zero] * (length - len(places)) for places, zero, length in zip(lists, (0, 0, 0.0, 0.0), lengths)]
+        return Called(("granted", len(lists[1])) if granted else answer, stores)
 
 
 def numbered(rows):

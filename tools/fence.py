@@ -3,7 +3,7 @@
 
 A function with a `requires` that another crate calls has to be `pub`, and whoever lists its crate can call it. So crates.txt is the fence:
 
-1. A crate's name says its part. `plan_..` and `verify_..` are inner crates of planning, `run_..` of elimination, `job_..` of job, `offset_..` of offsets:
+1. A crate's name says its part. `plan_..` and `verify_..` are inner crates of planning, `run_..` of elimination, `job_..` of job, `offset_..` of offsets, `load_..` of loads:
    each may be listed by the open crate of its part and by inner crates of the same part, and by nobody else; planning's `plan_..` do not list its
    `verify_..`. `store_..` are inner crates that every part may list, and that list none of the parts'; so may the crate of the exported functions. No crate
    lists that one.
@@ -19,7 +19,7 @@ import re
 import sys
 
 # The open crate of the part that a name's first word stands for; `store` stands for every part.
-PART_OF = {"plan": "planning", "verify": "planning", "run": "elimination", "job": "job", "offset": "offsets"}
+PART_OF = {"plan": "planning", "verify": "planning", "run": "elimination", "job": "job", "offset": "offsets", "load": "loads"}
 SHARED = "store"
 EXPORTED = "dalumiveth"
 KIT = ("std", "io", "libc", "os")

@@ -10,14 +10,15 @@ from job_bytes import MOST_BYTES, MOST_FIELDS, Refused, is_finite, number_of, re
 
 ROOM = 2048
 
-# What is wrong, for each refusal of document 01, 13 by document 02's ticket 14, 19 and 27 by its ticket 10, 28 and 29 by its ticket 11; {k} is its step.
+# What is wrong, for each refusal of document 01, 13 by document 02's ticket 14, 19 and 27 by its ticket 10, 23 by its ticket 6, 28 and 29 by its ticket 11;
+# {k} is its step.
 SENTENCES = {
     1: f"The number of fields is 0 or above {MOST_FIELDS} (in a call of the library: above 1,024, or more than 16,384 entries).",
     2: "The row starts of a pattern are not n+1, do not begin with 0, fall, or do not end with the number of entries.",
     3: "A column number is 0 or larger than the number of fields.",
     4: "The columns of a row do not ascend strictly.",
     5: "A row lacks its diagonal place. Where its value is zero it has to be listed all the same.",
-    6: "A starts store of the plan, a work store, or the store for a job's text, a tally or an offset has another length than docs/CALLS.md fixes for it.",
+    6: "A starts store of the plan, a work store, or a store for a job's text, a tally, an offset or a test load has another length than docs/CALLS.md fixes for it.",
     7: f"At step {{k}} the subscripts of L need more room than is lent (in the program {ROOM:,}).",
     8: f"At step {{k}} the subscripts of U need more room than is lent (in the program {ROOM:,}).",
     9: "The lent plan is not the plan of this pattern: some count, start or used subscript differs.",
@@ -34,11 +35,12 @@ SENTENCES = {
     17: "Bytes follow the Z.",
     18: f"The job has more than {MOST_BYTES:,} bytes.",
     19: "The member's sum in the tally would pass 4,294,967,295; the tally stays as it was.",
+    23: "The divisor d of a test load is 0.",
     27: "The member number is outside 1 to 16; the tally stays as it was.",
     28: "The text is not an offset such as +012 34 56.789 (14 bytes, below 360 degrees), or it is minus zero.",
     29: "The number of milliarcseconds is not finite or rounds beyond the largest, 1,295,999,999.",
 }
-NOT_OF_JOBS = (2, 6, 9, 19, 27, 28, 29)
+NOT_OF_JOBS = (2, 6, 9, 19, 23, 27, 28, 29)
 WITH_STEP = (7, 8, 13, 14)      # the others have step 0
 
 

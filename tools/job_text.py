@@ -19,10 +19,10 @@ WORD = re.compile(rf"(?<!\S){offset_text.FORM}(?!\S)|\S+")
 
 
 class BadText(Exception):
-    """What is wrong, and the line that it stands in."""
+    """What is wrong, and the line that it stands in; None where there are no lines."""
 
     def __init__(self, line, what):
-        super().__init__(f"line {line}: {what}")
+        super().__init__(what if line is None else f"line {line}: {what}")
 
 
 # ---- from text

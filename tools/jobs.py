@@ -4,6 +4,7 @@
   tools/jobs.py make TEXT [-o JOB] [--unchecked]      a job from a text of fields
   tools/jobs.py make --matrix A.mtx --right B [--pivots 1,2,3] [-o JOB]
                                                       a job from a Matrix Market file and a right side
+  tools/jobs.py make --load SEED,N,D [-o JOB]         a job from the test load that a seed names
   tools/jobs.py show JOB [--hex]                      a job as that text again
   tools/jobs.py explain ANSWER [--job JOB] [--sexagesimal]
                                                       the program's answer in words
@@ -22,6 +23,7 @@ import sys
 import job_answer
 import job_text
 import matrix_market
+import seeded_load
 from job_bytes import Refused, read, write
 
 
@@ -71,17 +73,31 @@ def in_file(name, make, *arguments):
         raise InFile(f"{'standard input' if name == '-' else name}: {error}") from None
 
 
+def from_text(words):
+    name = words.text or "-"
+    return in_file(name, lambda: job_text.parse(load_text(name), words.unchecked))
+
+
+def from_matrix(words):
+    matrix = in_file(words.matrix, lambda: matrix_market.Market(load_text(words.matrix)))
+    right = in_file(words.right, lambda: matrix_market.right_side(load_text(words.right)))
+    fields, added = in_file(words.matrix, matrix_market.from_market, matrix, right, words.pivots)
+    if added:
+        print("jobs: diagonal places that the file does not list hold 0: " + " ".join(map(str, added)), file=sys.stderr)
+    return fields
+
+
+def from_load(words):
+    name = "the load " + ",".join(map(str, words.load))
+    try:
+        return in_file(name, seeded_load.job_of, *words.load)
+    except Refused as refusal:
+        raise InFile(f"{name}: refused, number {refusal.number}: {job_answer.SENTENCES[refusal.number]}") from None
+
+
 def make(words):
-    if words.matrix is None:
-        name = words.text or "-"
-        fields = in_file(name, lambda: job_text.parse(load_text(name), words.unchecked))
-    else:
-        matrix = in_file(words.matrix, lambda: matrix_market.Market(load_text(words.matrix)))
-        right = in_file(words.right, lambda: matrix_market.right_side(load_text(words.right)))
-        fields, added = in_file(words.matrix, matrix_market.from_market, matrix, right, words.pivots)
-        if added:
-            print("jobs: diagonal places that the file does not list hold 0: " + " ".join(map(str, added)), file=sys.stderr)
-    save(words.output, write(fields))
+    made = from_load if words.load is not None else from_matrix if words.matrix is not None else from_text
+    save(words.output, write(made(words)))
     return 0
 
 
@@ -108,16 +124,28 @@ def rows(text):
     return [int(word) for word in words]
 
 
+def load_name(text):
+    """The seed, n and d of --load. Digits alone, at most 20 each: what passes 32 bits is no seed, and n and d have 64."""
+    words = text.split(",")
+    if len(words) != 3 or not all(word.isascii() and word.isdigit() and len(word) <= 20 for word in words):
+        raise argparse.ArgumentTypeError(f"'{text}' is not SEED,N,D: three whole numbers")
+    seed, n, d = (int(word) for word in words)
+    if seed > seeded_load.LARGEST_SEED:
+        raise argparse.ArgumentTypeError(f"a seed is 0 to {seeded_load.LARGEST_SEED}, not {seed}")
+    return seed, n, d
+
+
 def command_line():
     parser = argparse.ArgumentParser(prog="jobs.py", description=__doc__, formatter_class=argparse.RawDescriptionHelpFormatter)
     commands = parser.add_subparsers(dest="command", required=True, metavar="make|show|explain")
-    made = commands.add_parser("make", help="a job from a text or from a Matrix Market file")
+    made = commands.add_parser("make", help="a job from a text, from a Matrix Market file or from a test load")
     made.add_argument("text", nargs="?")
     made.add_argument("-o", dest="output", metavar="JOB")
     made.add_argument("--unchecked", action="store_true", help="write it though the program would refuse it")
     made.add_argument("--matrix", metavar="A.mtx")
     made.add_argument("--right", metavar="B", help="a Matrix Market file with one column, or numbers alone")
     made.add_argument("--pivots", type=rows, default=[], help="the row list, with --matrix")
+    made.add_argument("--load", type=load_name, metavar="SEED,N,D", help="a test load: about one place in D of N rows is present, and the diagonal")
     made.set_defaults(run=make)
     shown = commands.add_parser("show", help="a job as text")
     shown.add_argument("job", nargs="?", default="-")
@@ -140,6 +168,8 @@ def main(arguments):
         parser.error("--pivots goes with --matrix; a text has its own row list")
     if words.command == "make" and words.matrix is not None and (words.text is not None or words.unchecked):
         parser.error("--matrix goes with neither a text nor --unchecked")
+    if words.command == "make" and words.load is not None and (words.text is not None or words.matrix is not None or words.unchecked):
+        parser.error("--load goes with neither a text, --matrix nor --unchecked")
     try:
         status = words.run(words)
         sys.stdout.flush()

@@ -17,6 +17,7 @@ import cases_job
 import job_text
 import jobs
 import matrix_market
+import seeded_load
 from job_bytes import Fields, Refused, Row, bits_of
 
 HERE = os.path.dirname(os.path.abspath(__file__))
@@ -229,18 +230,18 @@ class Answers(unittest.TestCase):
     def test_sentences_of_requests(self):
         """The header's words."""
         header = dict(re.findall('case ([0-9]+): return "(.*)";', contents(os.path.join(HERE, "..", "include", "dalumiveth.h")).decode()))
-        for number in (19, 27, 28, 29):
+        for number in (19, 23, 27, 28, 29):
             said = header[str(number)]
             self.assertEqual(job_answer.SENTENCES[number], said[0].upper() + said[1:] + ".")
 
     def test_every_refusal_has_its_sentence(self):
-        self.assertEqual(sorted(job_answer.SENTENCES), [*range(1, 20), 27, 28, 29])
+        self.assertEqual(sorted(job_answer.SENTENCES), [*range(1, 20), 23, 27, 28, 29])
         for number in job_answer.SENTENCES:
             step = 17 if number in (7, 8, 13, 14) else 0
             said, finished = job_answer.explain(f"refused {number} {step}\n")
             self.assertFalse(finished)
             self.assertTrue(said.startswith(f"refused, number {number}" + (", step 17\n" if step else "\n")), said)
-            self.assertEqual(said.count("\n"), 3 if number in (2, 6, 9, 19, 27, 28, 29) else 2)
+            self.assertEqual(said.count("\n"), 3 if number in (2, 6, 9, 19, 23, 27, 28, 29) else 2)
             self.assertEqual("17" in said.splitlines()[1], bool(step))
             self.assertNotIn("{", said)
         self.assertIn("has an entry of magnitude at least 2^-1022 in column 17", job_answer.explain("refused 13 17\n")[0])
@@ -334,6 +335,24 @@ class Commands(unittest.TestCase):
         status, with_offsets, _ = self.run_words("explain", "--sexagesimal", given=LISTING.encode())
         self.assertEqual((status, with_offsets), (0, said.replace(b"p+0\n", b"p+0    +000 00 00.001\n")))
 
+    def test_load(self):
+        """A job from a seed, read back; what is refused, by the load or by the program, is told in words and makes no job."""
+        shown = "fields 5\nrow 1   1:74  3:15  4:-826  = 962\nrow 2   2:189  = 734\nrow 3   3:291  = 298\nrow 4   4:626  = -947\nrow 5   3:644  5:495  = 855\n"
+        status, job, said = self.run_words("make", "--load", "1984,5,3")
+        self.assertEqual((status, said), (0, ""))
+        self.assertEqual(job, job_bytes.write(seeded_load.job_of(1984, 5, 3)))
+        self.assertEqual(self.run_words("show", given=job), (0, shown.encode(), ""))
+        self.assertIn("".join(f"    {line}\n" for line in shown.splitlines()), contents(os.path.join(HERE, "..", "docs", "JOB.md")).decode())
+        for seed in ("0", "4294967295", "0007"):
+            self.assertEqual(self.run_words("make", "--load", seed + ",128,20")[0], 0)
+        for name, part in (("7,0,3", "refused, number 1: The number of fields is 0 or above 128"), ("7,1025,0", "refused, number 1: "),
+                           ("7,18446744073709551615,3", "refused, number 1: "), ("7,5,0", "refused, number 23: The divisor d of a test load is 0."),
+                           ("7,129,0", "refused, number 23: "), ("7,129,50", "129 fields: 1 to 128 are possible (the program would refuse it: 1)"),
+                           ("7,128,2", "bytes, and 16384 are possible (the program would refuse it: 18)")):
+            status, out, said = self.run_words("make", "--load", name)
+            self.assertEqual((status, out), (1, b""), name)
+            self.assertTrue(said.startswith(f"jobs: the load {name}: ") and part in said, said)
+
     def test_files(self):
         with tempfile.TemporaryDirectory() as folder:
             def path(name, content=None):
@@ -378,7 +397,13 @@ class Commands(unittest.TestCase):
         self.assertEqual(self.run_words("make", "--unchecked", given=b"fields 1 row 1 2:1 = 1")[0], 0)
         for words in ((), ("make", "--matrix", "a"), ("make", "--right", "b"), ("make", "--pivots", "1"), ("make", "t", "--matrix", "a", "--right", "b"),
                       ("make", "--matrix", "a", "--right", "b", "--pivots", "x"), ("make", "--matrix", "a", "--right", "b", "--pivots", "1_0"),
-                      ("make", "--matrix", "a", "--right", "b", "--pivots", ""), ("show", "/no/such/file"), ("made",)):
+                      ("make", "--matrix", "a", "--right", "b", "--pivots", ""), ("show", "/no/such/file"), ("made",),
+                      ("make", "--load", "1,2"), ("make", "--load", "1,2,3,4"), ("make", "--load", "1,2,x"), ("make", "--load", "1,,3"),
+                      ("make", "--load", "1, 2,3"), ("make", "--load", "-1,2,3"), ("make", "--load=-1,2,3"), ("make", "--load", "1,2_0,3"),
+                      ("make", "--load", "1.0,2,3"), ("make", "--load", "4294967296,2,3"), ("make", "--load", "1,2," + "3" * 30),
+                      ("make", "--load", "\u0661,2,3"), ("make", "--load"), ("make", "t", "--load", "1,2,3"), ("make", "--load", "1,2,3", "--unchecked"),
+                      ("make", "--load", "1,2,3", "--pivots", "1,2"), ("make", "--load", "1,2,3", "--right", "b"),
+                      ("make", "--load", "1,2,3", "--matrix", "a", "--right", "b"), ("show", "--load", "1,2,3")):
             self.assertEqual(self.run_words(*words)[0], 2, words)
 
 

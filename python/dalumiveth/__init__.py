@@ -6,6 +6,7 @@
     factor = dalumiveth.splu(A)     in the manner of scipy.sparse.linalg.splu
     tally.add(3, run.updates)       the updates of a finished run for member 3; tally = dalumiveth.Tally()
     dalumiveth.write_offset(x[0])   milliarcseconds as "+012 34 56.789"; read_offset reads such a text
+    dalumiveth.load(7, 50, 4)       A and b of a test load: seed 7, n 50, about one place in 4 present
 
 How things count here:
 
@@ -17,11 +18,12 @@ How things count here:
 * Members of a tally count from 1, as in the papers: member m's sum is `tally.counters[m - 1]`.
 
 The shared object is target/libdalumiveth.so of the repository (`make shared`), or the file that the environment variable
-DALUMIVETH_LIBRARY names. It is loaded by the first call. numpy is needed; SciPy is used for L and U if it is there.
+DALUMIVETH_LIBRARY names. It is loaded by the first call. numpy is needed; SciPy is used for L, U and test loads if it is there.
 """
 
 from .factors import Factor, splu
 from .jobs import job
+from .loads import load
 from .offsets import Offset, read_offset, write_offset
 from .patterns import CSR
 from .plans import Counts, Plan, Stores, plan
@@ -30,6 +32,6 @@ from .runs import Run
 from .tallies import Tally
 
 __all__ = [
-    "CSR", "Counts", "Factor", "Offset", "Plan", "Refusal", "Run", "SENTENCES", "Stores", "Tally", "job", "plan", "read_offset",
-    "splu", "write_offset",
+    "CSR", "Counts", "Factor", "Offset", "Plan", "Refusal", "Run", "SENTENCES", "Stores", "Tally", "job", "load", "plan",
+    "read_offset", "splu", "write_offset",
 ]

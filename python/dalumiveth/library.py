@@ -14,6 +14,7 @@ LARGEST_USIZE = 2**64 - 1
 # In C a slice is a pointer followed by its length in elements.
 _SLICE = [ctypes.c_void_p, ctypes.c_size_t]
 _NUMBER = [ctypes.c_size_t]
+_SEED = [ctypes.c_uint32]            # ctypes drops what passes 32 bits: loads.py sees to it that nothing does
 _REAL = [ctypes.c_double]
 
 _PATTERN = 2 * _NUMBER + 2 * _SLICE  # most, n; starts, columns
@@ -35,6 +36,7 @@ _PARAMETERS = {
     "dalumiveth_job": 2 * _SLICE + _ANSWER,
     "dalumiveth_read_offset": 2 * _SLICE + _ANSWER,
     "dalumiveth_write_offset": _REAL + _SLICE + _ANSWER,
+    "dalumiveth_load": _SEED + 2 * _NUMBER + 4 * _SLICE + _ANSWER,
 }
 
 

@@ -1,4 +1,4 @@
-"""Every refusal, 1 to 19 and 27 to 29, where a caller from Python can bring it about."""
+"""Every refusal, 1 to 19, 23 and 27 to 29, where a caller from Python can bring it about."""
 
 import copy
 import pickle
@@ -308,6 +308,44 @@ class OfTallies(unittest.TestCase):
         self.assertIs(type(copy.copy(Named())), Named)
 
 
+class OfLoads(unittest.TestCase):
+    def test_1(self):
+        """For n before 23, for the entries after it; 16,384 entries are made."""
+        for n in (0, 1025, 2**32 + 1, 2**60, 2**200):
+            for d in (0, 1, 2**64):
+                self.assertEqual(refusal_of(dalumiveth.load, 7, n, d), (1, 0), (n, d))
+        self.assertEqual(dalumiveth.load(7, 128, 1)[0].data.size, 16384)
+        self.assertEqual(refusal_of(dalumiveth.load, 7, 129, 1), (1, 0))
+        self.assertEqual(refusal_of(dalumiveth.load, 7, 1024, 1), (1, 0))
+
+    def test_23(self):
+        for n in (1, 5, 129, 1024):
+            self.assertEqual(refusal_of(dalumiveth.load, 7, n, 0), (23, 0))
+
+    def refused_with(self, n, d, lengths):
+        """The number of the exported function's refusal, on stores that then are zeros throughout."""
+        starts, columns = (np.ones(length, dtype=USIZE) for length in lengths[:2])
+        values, right = (np.full(length, np.nan) for length in lengths[2:])
+        answer = np.ones(4, dtype=USIZE)
+        number = call("dalumiveth_load", 7, n, d, *lend(starts, columns, values, right, answer))
+        self.assertEqual(answer.tolist(), [number, 0, 0, 0])
+        self.assertFalse(any(store.view(USIZE).any() for store in (starts, columns, values, right)))
+        return number
+
+    def test_6_after_1_and_23(self):
+        """Each store one too short, one too long and empty: before any draw, so that too many entries are not seen."""
+        for n, d in ((5, 2), (129, 1)):
+            wanted = (n + 1, 16384, 16384, n)
+            for store, length in enumerate(wanted):
+                for places in (length - 1, length + 1, 0):
+                    lengths = (*wanted[:store], places, *wanted[store + 1:])
+                    self.assertEqual(self.refused_with(n, d, lengths), 6, lengths)
+                    self.assertEqual(self.refused_with(n, 0, lengths), 23, lengths)
+                    self.assertEqual(self.refused_with(1025, 0, lengths), 1, lengths)
+            self.assertEqual(self.refused_with(n, 0, wanted), 23)
+        self.assertEqual(self.refused_with(129, 1, (130, 16384, 16384, 129)), 1)
+
+
 class OfOffsets(unittest.TestCase):
     def test_28(self):
         for text in ("-000 00 00.000", "+360 00 00.000", "+012 60 00.000", "+012 34 60.000", "", b"+012 34 56.78", "+012 34 56.789\n"):
@@ -337,15 +375,15 @@ class Sentences(unittest.TestCase):
     def test_of_requests(self):
         """The header's words."""
         header = dict(re.findall(r'case ([0-9]+): return "(.*)";', (ROOT / "include" / "dalumiveth.h").read_text()))
-        for number, where in ((27, "tally"), (28, "offset"), (29, "offset")):
+        for number, where in ((23, "load"), (27, "tally"), (28, "offset"), (29, "offset")):
             self.assertEqual(dalumiveth.SENTENCES[number], (where, header[str(number)]))
 
     def test_every_one(self):
-        self.assertEqual(sorted(dalumiveth.SENTENCES), [*range(1, 20), 27, 28, 29])
+        self.assertEqual(sorted(dalumiveth.SENTENCES), [*range(1, 20), 23, 27, 28, 29])
         for number in dalumiveth.SENTENCES:
             refusal = dalumiveth.Refusal(number, 7)
             self.assertIn(refusal.sentence, str(refusal))
-            self.assertIn(refusal.where, ("pattern", "plan stores", "values", "run", "job", "tally", "offset"))
+            self.assertIn(refusal.where, ("pattern", "plan stores", "values", "run", "job", "tally", "load", "offset"))
             again = pickle.loads(pickle.dumps(refusal))
             self.assertEqual((again.number, again.step, str(again)), (number, 7, str(refusal)))
         self.assertIn("an entry of magnitude at least 2^-1022", dalumiveth.Refusal(13, 7).sentence)

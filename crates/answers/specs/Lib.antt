@@ -1,6 +1,7 @@
--- What the contracts of planning's calls, of the runs and of reading and writing offsets cite besides the foundation.
+-- What the contracts of planning's calls, of the runs, of reading and writing offsets and of loading cite besides the foundation.
 pub mod Answers
 pub mod Stores
 pub mod Runs
 pub mod RunStores
 pub mod Offsets
+pub mod Loads

@@ -13,6 +13,7 @@ use Rattle.lists.specs.Functions.{padded}
 use Rattle.lists.proofs.Places.{padded-take}
 use Rattle.foundation.specs.Answer.{Answer, refused, granted, refuseIf, resultStore}
 use Rattle.foundation.specs.Numbers.{plusZero}
+use Rattle.foundation.specs.LoadCall.{loadAnswer, LoadStores, loadSizesOf, loadLeaves}
 use Rattle.foundation.specs.OffsetCall.{readOffset, readInto, readLeaves, writeOffset, writeLeaves}
 use Rattle.foundation.specs.Pattern.{Lent}
 use Rattle.foundation.specs.PlanCall.{PlanStores, Counts}
@@ -22,10 +23,12 @@ use Rattle.foundation.specs.RunCall.{Lending, RunStores}
 use Rattle.foundation.specs.Tally.{tallyAnswer, tallyAfter}
 use Rattle.foundation.proofs.TallyAnswers.{other-length, after-refusal, tally-length}
 use Rattle.answers.specs.Answers.{answerOf, verifyAnswerOf, countsIn}
+use Rattle.answers.specs.Loads.{loadAnswerOf}
 use Rattle.answers.specs.Offsets.{writeAnswerOf}
 use Rattle.answers.specs.Runs.{chosenBy, runAnswerOf, extentOf}
 use Rattle.answers.specs.Stores.{WorkStores, lentPlan}
 use Rattle.answers.specs.declared.Extent.{Extent as CallExtent}
+use Rattle.answers.specs.declared.LoadAnswer.{LoadAnswer}
 use Rattle.answers.specs.declared.PivotChoice.{PivotChoice}
 use Rattle.answers.specs.declared.PlanAnswer.{PlanAnswer}
 use Rattle.answers.specs.declared.PlanCounts.{PlanCounts}
@@ -38,7 +41,7 @@ use Rattle.tally.specs.Calls.{tallyAnswerOf}
 use Rattle.tally.specs.declared.TallyAnswer.{TallyAnswer}
 use Rattle.numbers.specs.Numbered.{refusalNumber, numbersOf, planNumbers, verifyNumbers, oneNumber, jobNumbers, offsetNumbers, readNumbers, writeNumbers, cutOrPadded, countsFrom}
 use Rattle.numbers.proofs.CutOrPadded.{cut-or-padded-whole, cut-or-padded-same, cut-or-padded-none}
-use Rattle.dalumiveth.specs.Calls.{lentFrom, PlanTold, VerifyTold, RunTold, TallyTold, textRoom, jobCall, JobTold, ReadTold, WriteTold}
+use Rattle.dalumiveth.specs.Calls.{lentFrom, PlanTold, VerifyTold, RunTold, TallyTold, textRoom, jobCall, JobTold, ReadTold, WriteTold, LoadTold}
 
 -- what a telling function ensures of an answer, given what the answer is
 module _ {A : Type 0} (shown : Answer A → List ℕ) (r : ℕ) (answer answer′ : List ℕ) (a b : Answer A) (same : a ≡ b)
@@ -187,3 +190,16 @@ module _ (r : ℕ) (text : List ℕ) (value value′ : List Float) (answer answe
     read-told w x is filled t =
         let fits : eqb (length value) 1 ≡ true = eq-eqb (length value) 1 one in
         record { returned = rw (fits, ← is) (t .0); numbers = rw (fits, ← is) (t .1); float = rw (fits, ← is) (filled ∙ rw one refl) }
+
+-- ---- test loads
+
+pub load-told : (r seed n d : ℕ) (stores stores′ : LoadStores) (answer answer′ : List ℕ) (a : LoadAnswer)
+    → (loadAnswerOf a ≡ loadAnswer seed n d (loadSizesOf stores)) × (stores′ ≡ loadLeaves seed n d (loadSizesOf stores))
+    → (r ≡ refusalNumber (loadAnswerOf a)) × (answer′ ≡ cutOrPadded (length answer) (oneNumber (loadAnswerOf a)))
+    → LoadTold r seed n d stores stores′ answer answer′
+load-told r seed n d stores stores′ answer answer′ a (is, left) t =
+    record {
+      returned = returned-is oneNumber r answer answer′ _ _ is t;
+      numbers = told-is oneNumber r answer answer′ _ _ is t;
+      results = left;
+    }

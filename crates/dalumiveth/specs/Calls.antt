@@ -8,6 +8,7 @@ use lib.Dec.{eqb}
 use lib.Ieee.{Float}
 use lib.ListN.{length}
 use Rattle.foundation.specs.Answer.{Answer, granted, refuseIf, resultStore}
+use Rattle.foundation.specs.LoadCall.{loadAnswer, LoadStores, loadSizesOf, loadLeaves}
 use Rattle.foundation.specs.OffsetCall.{readInto, readLeaves, writeOffset, writeLeaves}
 use Rattle.foundation.specs.Pattern.{Lent}
 use Rattle.foundation.specs.PlanCall.{PlanStores, LentPlan, planned, planAnswer, planLeaves, held}
@@ -90,3 +91,10 @@ pub record WriteTold (r : ℕ) (value : Float) (out out′ answer answer′ : Li
   pub numbers : answer′ ≡ cutOrPadded (length answer) (writeNumbers (writeOffset (length out) value))
   -- its text, or zeros throughout
   pub text : out′ ≡ writeLeaves (length out) value
+
+pub record LoadTold (r seed n d : ℕ) (stores stores′ : LoadStores) (answer answer′ : List ℕ) : Type 0 where
+  pub returned : r ≡ refusalNumber (loadAnswer seed n d (loadSizesOf stores))
+  -- the number of entries, or the refusal
+  pub numbers : answer′ ≡ cutOrPadded (length answer) (oneNumber (loadAnswer seed n d (loadSizesOf stores)))
+  -- row starts, columns, values and right side with zeros behind them, or zeros throughout
+  pub results : stores′ ≡ loadLeaves seed n d (loadSizesOf stores)

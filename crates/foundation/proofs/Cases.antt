@@ -17,3 +17,4 @@ pub mod Job
 pub mod Printing
 pub mod Tally
 pub mod Offset
+pub mod Load

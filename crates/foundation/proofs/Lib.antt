@@ -40,6 +40,14 @@ pub mod Nearest
 pub mod Offsets
 pub mod TallyAnswers
 pub mod TallySums
+pub mod LoadRows
+pub mod LoadPlaces
+pub mod LoadPattern
+pub mod LoadValues
+pub mod LoadDraws
+pub mod LoadAnswers
+pub mod Loads
+pub mod LoadNumbers
 pub mod Theorems
 pub mod Open
 pub mod Marked

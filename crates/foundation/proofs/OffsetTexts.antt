@@ -19,7 +19,8 @@ use Rattle.foundation.specs.Answer.{Answer, refused, granted, andThen}
 use Rattle.foundation.specs.Text.{ascii}
 use Rattle.foundation.specs.Offset.{largestOffset, negative, signed, signByte, twoDigits, threeDigits, textWith, textOf}
 use Rattle.foundation.specs.OffsetReading.{isDigit, form, mayStand, hasForm, digitAt, twoAt, threeAt, degrees, minutes, seconds, thousandths, inRange, sizeRead, minusRead, readable, readAs}
-use Rattle.foundation.specs.OffsetCall.{floatOf, readOffset}
+use Rattle.foundation.specs.Numbers.{floatOf}
+use Rattle.foundation.specs.OffsetCall.{readOffset}
 use Rattle.foundation.specs.Claims.Offsets.{ReadsTexts, OtherTexts}
 use Rattle.foundation.proofs.Stores.{not-granted, same-granted}
 

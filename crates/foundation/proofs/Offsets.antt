@@ -16,11 +16,11 @@ use borrow.Author.Tests.{le-leb, lt-leb, leb-true, leb-false, ltb-true, ltb-fals
 use Rattle.lists.proofs.Members.{by-test}
 use Rattle.lists.proofs.Places.{padded-full}
 use Rattle.foundation.specs.Answer.{refused, granted, refuseIf, resultStore}
-use Rattle.foundation.specs.Numbers.{finite}
+use Rattle.foundation.specs.Numbers.{finite, floatOf}
 use Rattle.foundation.specs.Text.{ascii}
 use Rattle.foundation.specs.Offset.{largestOffset, negative, signed, signByte, twoDigits, threeDigits, textWith, textOf}
 use Rattle.foundation.specs.OffsetRounding.{nearestWhole, withinReach, roundedTo}
-use Rattle.foundation.specs.OffsetCall.{floatOf, writeOffset, writeLeaves}
+use Rattle.foundation.specs.OffsetCall.{writeOffset, writeLeaves}
 use Rattle.foundation.specs.Claims.Offsets.{ReadsTexts, WithinHalf, OnlyNearest, BeyondLargest, FloatEqual, ZeroWithPlus, WrittenReads, ReadWrites}
 use Rattle.foundation.proofs.Nearest.{Near, nearest-near, nearest-whole, near-unique, under-limit, over-limit}
 use Rattle.foundation.proofs.Stores.{not-granted}

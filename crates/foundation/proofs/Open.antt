@@ -10,3 +10,4 @@ pub mod Jobs
 pub mod Prints
 pub mod Tallies
 pub mod Offsets
+pub mod Loads

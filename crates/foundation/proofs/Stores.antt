@@ -1,6 +1,6 @@
 -- What an answer tells, and what the stores hold after a refusal and after a grant.
 use mathlib.Core.List.{List}
-use mathlib.Core.Path.{_≡_, refl}
+use mathlib.Core.Path.{_≡_, refl, sym, _∙_}
 use Prim.Native.Nat.{ℕ}
 use native.Mathlib.Omega.{arith}
 use lib.ListN.{replicate}
@@ -14,15 +14,27 @@ use Rattle.foundation.specs.RunCall.{Ran, runAnswer}
 pub not-granted : {A B : Type 0} {b : B} (number step : ℕ) → _≡_ {A = Answer B} (refused number step) (granted b) → A
 not-granted number step e = let z : _≡_ {A = ℕ} 0 1 = cc in absurd (omega arith)
 
+-- an answer has one number, and grants nothing where it refuses
+pub one-number : {A B : Type 0} {a : Answer B} (n k : ℕ) → (n ≡ k → ⊥) → a ≡ refused n 0 → a ≡ refused k 0 → A
+one-number n k other p q = let same : n ≡ k = cc in absurd (other same)
+
+pub not-both : {A B : Type 0} {a : Answer B} {n s : ℕ} {b : B} → a ≡ refused n s → a ≡ granted b → A
+not-both {n = n} {s = s} p q = not-granted n s (sym p ∙ q)
+
 -- what is granted is one thing
 pub same-granted : {B : Type 0} (p q : B) → granted p ≡ granted q → p ≡ q
 same-granted p q e = cc
 
--- a run that was answered with a refusal was refused
+-- where a part of what was granted is answered, what was answered with a refusal was refused
+pub refused-of : {A B : Type 0} (part : A → B) (a : Answer A) (number step : ℕ) → andThen a (λ x. granted (part x)) ≡ refused number step → a ≡ refused number step
+unfolding andThen
+refused-of part (refused m k) number step e = cc
+refused-of part (granted x) number step e = not-granted number step (sym e)
+
+-- so was a run
 pub refused-from : (a : Answer Ran) (number step : ℕ) → refused number step ≡ runAnswer a → a ≡ refused number step
-unfolding runAnswer andThen
-refused-from (refused m k) number step e = cc
-refused-from (granted r) number step e = let z : _≡_ {A = ℕ} 0 1 = cc in absurd (omega arith)
+unfolding runAnswer
+refused-from a number step e = refused-of (λ r. r .end .updates) a number step (sym e)
 
 -- ---- stores
 

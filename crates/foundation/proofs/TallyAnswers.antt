@@ -12,7 +12,7 @@ use Rattle.lists.proofs.Members.{by-test, and-left, and-right}
 use Rattle.foundation.specs.Answer.{Answer, refused, granted, refuseIf}
 use Rattle.foundation.specs.Claims.Tallies.{OutsideMembers, FullCounters, OtherLengths, NewSums, OwnCounterAlone, RefusalKeeps}
 use Rattle.foundation.specs.Tally.{isMember, counterOf, maxTally, counterAnswer, tallyAnswer, keptCounters, tallyAfter}
-use Rattle.foundation.proofs.Stores.{not-granted, same-granted}
+use Rattle.foundation.proofs.Stores.{same-granted, one-number, not-both}
 
 -- ---- the tests, one by one
 
@@ -69,13 +69,6 @@ outcome counters m updates =
     (λ fits. of-new-sum sixteen (member-bounds m is) (ltb-false _ _ fits) (of-counter counters m updates sixteen is ∙ new-sum _ _ (ltb-false _ _ fits))))
     (λ none. of-no-member sixteen (λ inside. absurd (true≢false (sym (within m inside) ∙ none))) (no-member counters m updates sixteen none)))
     (λ e. let other = eqb-false (length counters) 16 e in of-other-length other (other-length counters m updates other))
-
--- an answer has one number, and grants nothing where it refuses
-one-number : {A : Type 0} {a : Answer ℕ} (n k : ℕ) → (n ≡ k → ⊥) → a ≡ refused n 0 → a ≡ refused k 0 → A
-one-number n k other p q = let same : n ≡ k = cc in absurd (other same)
-
-not-both : {A : Type 0} {a : Answer ℕ} {n s sum : ℕ} → a ≡ refused n s → a ≡ granted sum → A
-not-both {n = n} {s = s} p q = not-granted n s (sym p ∙ q)
 
 module _ {counters : List ℕ} {m updates : ℕ} where
   why-6 : Outcome counters m updates → tallyAnswer counters m updates ≡ refused 6 0 → length counters ≡ 16 → ⊥

@@ -1,5 +1,5 @@
--- The theorems that a release rests on, in one place: most of every pattern that passes 1 to 5, some of any pattern or plan, those of offsets of every text and float, as each
--- says.
+-- The theorems that a release rests on, in one place: most of every pattern that passes 1 to 5, some of any pattern or plan, those of offsets, of the tally and of test loads of
+-- every call, as each says.
 use mathlib.Core.Bool.{true, not}
 use mathlib.Core.List.{[]}
 use mathlib.Core.Path.{_≡_, ap}
@@ -16,6 +16,7 @@ use Rattle.foundation.specs.Facts.{PlanFacts, Opens, sizesOf}
 use Rattle.foundation.specs.Claims.{FirstHalf, RunsOn, SlotsSuffice, MultipliersStay, ZeroOutside, LaidBack, OwnSlots, SlotsWithin, MetOnce, JobRoom, RunsAlike, ListedPivots, PivotsCounted, PlanAccepted, RoomEnough, SlotsEnough, PlannedRunsAlike, LargestRow, ListedRow, StoresOpen, FiniteGiven, FiniteThroughout, LargestAtEveryStep, PivotsReach, ListedStops, LegalLists, AnswerRoom}
 use Rattle.foundation.specs.Claims.Offsets.{ReadsTexts, OtherTexts, WithinHalf, OnlyNearest, BeyondLargest, FloatEqual, ZeroWithPlus, WrittenReads, ReadWrites}
 use Rattle.foundation.specs.Claims.Tallies.{CountersAreSums, SixteenCounters, OutsideMembers, FullCounters, OtherLengths, NewSums, OwnCounterAlone, RefusalKeeps}
+use Rattle.foundation.specs.Claims.Loads.{LoadLimits, NoDivisors, OtherSizes, EntriesAnswered, RefusedLoads, LoadsStand, LoadsPass, LoadsFinite, SmallWholes, PlacesDrawn, ValuesDrawn, RightSidesDrawn, WholeSquares}
 use Rattle.foundation.proofs.Passing.{passes-plannable, passes-entries}
 use Rattle.foundation.proofs.Steps.{list-none}
 use Rattle.foundation.proofs.PlanFacts.{plan-facts}
@@ -44,6 +45,9 @@ use Rattle.foundation.proofs.OffsetTexts
 use Rattle.foundation.proofs.Offsets
 use Rattle.foundation.proofs.TallyAnswers
 use Rattle.foundation.proofs.TallySums
+use Rattle.foundation.proofs.LoadAnswers
+use Rattle.foundation.proofs.Loads
+use Rattle.foundation.proofs.LoadNumbers
 
 -- the plan's facts
 pub plan-has-its-facts : (most : ℕ) (p : Lent) → patternFault most p ≡ 0 → PlanFacts (patternOf p) (plan (patternOf p))
@@ -226,3 +230,46 @@ own-counter-alone = TallyAnswers.own-counter-alone
 
 pub refusal-keeps : RefusalKeeps
 refusal-keeps = TallyAnswers.refusal-keeps
+
+-- a test load is refused for its limits, for d or for a store's length, each just where it says; else its entries are answered
+pub load-limits : LoadLimits
+load-limits = LoadAnswers.load-limits
+
+pub no-divisors : NoDivisors
+no-divisors = LoadAnswers.no-divisors
+
+pub other-sizes : OtherSizes
+other-sizes = LoadAnswers.other-sizes
+
+pub entries-answered : EntriesAnswered
+entries-answered = LoadAnswers.entries-answered
+
+-- a refusal leaves zeros; else the stores have the load, and zeros beyond it
+pub refused-loads : RefusedLoads
+refused-loads = Loads.refused-loads
+
+pub loads-stand : LoadsStand
+loads-stand = Loads.loads-stand
+
+-- every load that is granted passes 1 to 5, 10 and 11, and its numbers are small and whole
+pub loads-pass : LoadsPass
+loads-pass = Loads.loads-pass
+
+pub loads-finite : LoadsFinite
+loads-finite = Loads.loads-finite
+
+pub small-wholes : SmallWholes
+small-wholes = Loads.small-wholes
+
+-- which draw decides each place, gives each value and each right side; and with a d of 1 it is the whole square
+pub places-drawn : PlacesDrawn
+places-drawn = LoadNumbers.places-drawn
+
+pub values-drawn : ValuesDrawn
+values-drawn = LoadNumbers.values-drawn
+
+pub right-sides-drawn : RightSidesDrawn
+right-sides-drawn = LoadNumbers.right-sides-drawn
+
+pub whole-squares : WholeSquares
+whole-squares = LoadAnswers.whole-squares

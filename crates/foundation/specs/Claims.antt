@@ -1,8 +1,9 @@
 -- The claims about every elimination, free or float, about the slots, the rows met and the program's room: each one proposition that can be read alone.
--- Those about offsets in degrees, minutes and seconds stand in Claims/Offsets, those about the tally in Claims/Tallies.
+-- Those about offsets in degrees, minutes and seconds stand in Claims/Offsets, those about the tally in Claims/Tallies, those about test loads in Claims/Loads.
 -- "A pattern that can be planned" is one that passes 1 to 5: its `patternFault` is 0, whatever the largest n.
 pub mod Offsets
 pub mod Tallies
+pub mod Loads
 use mathlib.Core.Bool.{Bool, true, false}
 use mathlib.Core.List.{List, _++_, map}
 use mathlib.Core.Logic.{_↔_}
@@ -24,7 +25,7 @@ use Rattle.foundation.specs.Reference.{Choice, largest, listed, Extent, 
 use Rattle.foundation.specs.Shown.{shown, shownDiagonal, laid}
 use Rattle.foundation.specs.Free.{FreeStep, FreeState, freeStart, freeRun, freeAfter}
 use Rattle.foundation.specs.PlanCall.{SideStores, PlanStores, LentPlan, WorkSizes, workFits, sizesFit, agrees, countsOf, planned, planLeaves, held}
-use Rattle.foundation.specs.RunCall.{Lending, lendingFits, allFinite, choiceFits, orderFits, valueAt, rightAt, Ran, ranWith, ran, legal, runAnswer, RunStores, runLeaves}
+use Rattle.foundation.specs.RunCall.{Lending, lendingFits, allFinite, choiceFits, orderFits, valueAt, rightAt, Ran, ranWith, ran, legal, runAnswer, runLeaves}
 use Rattle.foundation.specs.Job.{Job}
 use Rattle.foundation.specs.Printing.{jobRun, printed}
 

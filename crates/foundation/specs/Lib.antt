@@ -22,6 +22,9 @@ pub mod Offset
 pub mod OffsetReading
 pub mod OffsetRounding
 pub mod OffsetCall
+pub mod Draw
+pub mod Load
+pub mod LoadCall
 pub mod Facts
 pub mod Claims
 pub mod Table

@@ -1,8 +1,8 @@
--- What the elimination asks of an f64: zero of either sign, finite, magnitude, and the operations with one rounding each.
+-- What the calls ask of an f64: zero of either sign, finite, magnitude, the operations with one rounding each, the f64 of a whole number, bit patterns.
 use mathlib.Core.Bool.{Bool, true, false}
 use Prim.Native.Nat.{ℕ, zero, suc}
-use lib.Ieee.{Float, nan, inf, fin, binary64, sub, mul, div, eq, le, toBits, ofBits}
-use lib.IntN.{pos, negsuc}
+use lib.Ieee.{Float, nan, inf, fin, binary64, sub, mul, div, eq, le, ofInt, toBits, ofBits}
+use lib.IntN.{ℤ, pos, negsuc}
 
 -- +0: what stands at every place outside the pattern (document 01, "Elimination": "+0 outside the pattern").
 unfoldable pub plusZero : Float
@@ -54,6 +54,10 @@ difference place taken = sub binary64 place taken
 -- "m = entry / pivot", rounded once
 unfoldable pub quotient : Float → Float → Float
 quotient entry pivot = div binary64 entry pivot
+
+-- Document 02, Ticket 11: "the f64 equal to it", of a whole number; a draw's value (Ticket 6) is the f64 of one too
+unfoldable pub floatOf : ℤ → Float
+floatOf w = ofInt binary64 w
 
 -- the bit pattern of a number, and the number of a bit pattern
 unfoldable pub bitsOf : Float → ℕ

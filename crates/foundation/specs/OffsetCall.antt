@@ -4,16 +4,12 @@ use mathlib.Core.List.{List, [], _∷_}
 use Prim.Native.Nat.{ℕ}
 use lib.Dec.{eqb}
 use lib.IntN.{ℤ}
-use lib.Ieee.{Float, binary64, ofInt}
+use lib.Ieee.{Float}
 use Rattle.foundation.specs.Answer.{Answer, granted, refuseIf, andThen, resultStore}
-use Rattle.foundation.specs.Numbers.{plusZero}
+use Rattle.foundation.specs.Numbers.{plusZero, floatOf}
 use Rattle.foundation.specs.Offset.{textOf}
 use Rattle.foundation.specs.OffsetReading.{readAs}
 use Rattle.foundation.specs.OffsetRounding.{roundedTo}
-
--- "the f64 equal to it"
-unfoldable pub floatOf : ℤ → Float
-floatOf w = ofInt binary64 w
 
 -- "Reading gives whole milliarcseconds .. and the f64 equal to it"
 unfoldable pub readOffset : List ℕ → Answer (ℤ × Float)

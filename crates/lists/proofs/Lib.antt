@@ -5,6 +5,7 @@ pub mod Kept
 pub mod Least
 pub mod Overlap
 pub mod Places
+pub mod Laying
 pub mod Once
 pub mod Counting
 pub mod Small

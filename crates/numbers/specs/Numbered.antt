@@ -40,7 +40,7 @@ planNumbers = numbersOf countNumbers
 unfoldable pub verifyNumbers : Answer (Unit {0}) → List ℕ
 verifyNumbers = numbersOf (λ v. [])
 
--- an answer that is one number: a run's updates, or a member's new sum in the tally
+-- an answer that is one number: a run's updates, a member's new sum in the tally, or the entries of a test load
 unfoldable pub oneNumber : Answer ℕ → List ℕ
 oneNumber = numbersOf (λ number. number ∷ [])
 

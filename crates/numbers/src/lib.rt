@@ -22,6 +22,7 @@ pub use refusals::number_and_step;
 pub use refusals::number_of;
 pub use signs::minus_of;
 pub use signs::size_of;
+pub use telling::tell_load;
 pub use telling::tell_offset;
 pub use telling::tell_plan;
 pub use telling::tell_run;

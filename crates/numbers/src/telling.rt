@@ -3,6 +3,7 @@ ghost use mathlib.Core.List.{_∷_};
 ghost use mathlib.Core.Path.{_≡_};
 ghost use lib.ListN.{length};
 ghost use Rattle.answers.specs.Answers.{answerOf, verifyAnswerOf};
+ghost use Rattle.answers.specs.Loads.{loadAnswerOf};
 ghost use Rattle.answers.specs.Offsets.{writeAnswerOf};
 ghost use Rattle.answers.specs.Runs.{runAnswerOf};
 ghost use Rattle.tally.specs.Calls.{tallyAnswerOf};
@@ -14,6 +15,7 @@ use crate::refusals::number_and_step;
 use crate::refusals::number_of;
 use crate::signs::minus_of;
 use crate::signs::size_of;
+use answers::LoadAnswer;
 use answers::PlanAnswer;
 use answers::RunAnswer;
 use answers::RunOutcome;
@@ -96,6 +98,23 @@ pub fn tell_tally(answered: TallyAnswer, answer: &mut [usize]) -> usize
         }
         TallyAnswer::NoMember => put_refusal(27, 0, answer),
         TallyAnswer::Full => put_refusal(19, 0, answer),
+    }
+}
+
+// Three numbers: 0, 0 and the number of entries, or the refusal.
+pub fn tell_load(answered: LoadAnswer, answer: &mut [usize]) -> usize
+    ensures returned { λ r. ⌜ r ≡ refusalNumber (loadAnswerOf answered) ⌝ }
+    ensures numbers { λ r. ⌜ now (answer .exit) ≡ cutOrPadded (length (now (answer .entry))) (oneNumber (loadAnswerOf answered)) ⌝ }
+{
+    match answered {
+        LoadAnswer::Entries(entries) => {
+            let numbers = [0, 0, entries];
+            put(&numbers, answer);
+            0
+        }
+        LoadAnswer::Limits => put_refusal(1, 0, answer),
+        LoadAnswer::NoDivisor => put_refusal(23, 0, answer),
+        LoadAnswer::Stores => put_refusal(6, 0, answer),
     }
 }
 

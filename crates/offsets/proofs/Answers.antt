@@ -11,10 +11,11 @@ use lib.Seq.{take-all}
 use borrow.Author.Tests.{eq-eqb, ne-eqb}
 use Rattle.lists.specs.Functions.{padded}
 use Rattle.foundation.specs.Answer.{refused, granted, refuseIf, andThen, resultStore}
+use Rattle.foundation.specs.Numbers.{floatOf}
 use Rattle.foundation.specs.Offset.{largestOffset, negative, signed, textWith, textOf}
 use Rattle.foundation.specs.OffsetReading.{sizeRead, minusRead, readable, readAs}
 use Rattle.foundation.specs.OffsetRounding.{roundedTo}
-use Rattle.foundation.specs.OffsetCall.{floatOf, readOffset, writeOffset, writeLeaves}
+use Rattle.foundation.specs.OffsetCall.{readOffset, writeOffset, writeLeaves}
 use Rattle.foundation.proofs.OffsetTexts.{size-of-signed, form-sized, readable-form, text-length}
 use Rattle.numbers.specs.Numbered.{cutOrPadded}
 use Rattle.numbers.proofs.CutOrPadded.{cut-or-padded-whole, cut-or-padded-none}

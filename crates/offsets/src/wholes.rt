@@ -4,7 +4,7 @@ ghost use Prim.Native.Nat.{_≤_};
 ghost use lib.IntN.{natAbs};
 ghost use Rattle.foundation.specs.Offset as Offset;
 ghost use Rattle.foundation.specs.Offset.{largestOffset};
-ghost use Rattle.foundation.specs.OffsetCall.{floatOf};
+ghost use Rattle.foundation.specs.Numbers.{floatOf};
 
 // The whole number of a size, taken with minus where asked.
 pub fn signed(minus: bool, size: u64) -> i64

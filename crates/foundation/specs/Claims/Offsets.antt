@@ -8,10 +8,10 @@ use lib.IntN.{ℤ, pos, natAbs, _-ℤ_, _*ℤ_}
 use lib.Ieee.{Float, fin, binary64, up, down, fits}
 use lib.Ieee.Exact.{HasValue}
 use Rattle.foundation.specs.Answer.{refused, granted}
-use Rattle.foundation.specs.Numbers.{finite}
+use Rattle.foundation.specs.Numbers.{finite, floatOf}
 use Rattle.foundation.specs.Text.{ascii}
 use Rattle.foundation.specs.Offset.{largestOffset, negative, signed, textOf}
-use Rattle.foundation.specs.OffsetCall.{floatOf, offsetBytes, readOffset, writeOffset, writeLeaves}
+use Rattle.foundation.specs.OffsetCall.{offsetBytes, readOffset, writeOffset, writeLeaves}
 
 -- "Reading gives whole milliarcseconds, at most 1,295,999,999 in magnitude, and the f64 equal to it": reading answers w and x just where the text is that of w, w is of at most
 -- that magnitude and x is the f64 of w.

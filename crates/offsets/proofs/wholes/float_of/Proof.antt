@@ -5,7 +5,7 @@ use lib.IntN.{ℤ}
 use lib.Ieee.{binary64, inFloat, ofInt}
 use mir.Syntax.{w64}
 use mir.ValLaws.{toZ-ofZ}
-use Rattle.foundation.specs.OffsetCall.{floatOf}
+use Rattle.foundation.specs.Numbers.{floatOf}
 use Rattle.offsets.proofs.Words.{counts-whole}
 use Rattle.offsets.proofs.wholes.float_of.Statement.{statement}
 use Rattle.offsets.proofs.wholes.float_of.Tie as tie

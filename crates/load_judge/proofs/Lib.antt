@@ -1,0 +1,2 @@
+-- The lengths of the stores.
+pub mod Sizes

@@ -1,0 +1,2 @@
+-- What the rows of a load leave in the stores.
+pub mod Laid

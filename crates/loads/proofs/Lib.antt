@@ -1,0 +1,2 @@
+-- A call from its parts.
+pub mod Calls
