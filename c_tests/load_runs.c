@@ -22,7 +22,7 @@ static dlm_load load_of(uint32_t seed, size_t n, size_t d)
     return load;
 }
 
-/* Rows near the largest, or the numbers would pass the largest double long before the last step. */
+/* Rows near the largest: no multiplier then passes 2, so that the numbers do not grow fast in so many steps. */
 static void list_rows(trial *t)
 {
     static plain_run run;

@@ -31,7 +31,7 @@ typedef struct plain_plan {
     plain_side u;
 } plain_plan;
 
-/* How the pivot rows are chosen; at random: any row that serves, or any with at least half the largest magnitude, under which numbers hardly grow. */
+/* How the pivot rows are chosen; at random: any row that serves, or any with at least half the largest magnitude. */
 typedef enum plain_choice { BY_LARGEST, BY_LIST, AT_RANDOM, NEAR_LARGEST } plain_choice;
 
 typedef struct plain_run {

@@ -1,5 +1,4 @@
 -- What a call for a test load leaves in the four stores.
-
 use mathlib.Core.Path.{_≡_, sym, ap, _∙_}
 use Prim.Native.Nat.{ℕ, _+_, _-_, _<_}
 use native.Mathlib.Omega.{arith}

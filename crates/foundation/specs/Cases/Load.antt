@@ -1,5 +1,4 @@
 -- Test loads: document 02, Ticket 6. The draws were worked out from its words, the loads by the program of different authorship.
-
 use mathlib.Core.List.{List, [], _∷_, _++_, map}
 use Prim.Native.Nat.{ℕ, zero, suc}
 use lib.ListN.{length, replicate, take, drop}
