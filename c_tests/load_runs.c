@@ -22,19 +22,6 @@ static dlm_load load_of(uint32_t seed, size_t n, size_t d)
     return load;
 }
 
-/* Rows near the largest: no multiplier then passes 2, so that the numbers do not grow fast in so many steps. */
-static void list_rows(trial *t)
-{
-    static plain_run run;
-    dlm_pattern pattern = trial_pattern(t);
-    dlm_system system = trial_system(t);
-    size_t k;
-    plain_eliminate(&pattern, &system, NEAR_LARGEST, NULL, draw, dlm_whole(), &run);
-    resize_numbers(&t->rows, t->n);
-    for (k = 1; k <= t->n; k++)
-        t->rows.at[k - 1] = run.pivots[k] != 0 ? run.pivots[k] : k;
-}
-
 static void try_runs(trial *t, const plain_plan *plain)
 {
     for (t->listed = 0; t->listed <= 1; t->listed++) {
@@ -54,7 +41,7 @@ static void try_load(uint32_t seed, size_t n, size_t d)
     trial t;
     make_given_trial(&t, &pattern, &system);
     plain_make_plan(&pattern, &plain);
-    list_rows(&t);
+    make_rows(&t, NEAR_LARGEST); /* so that no multiplier passes 2, and the numbers do not grow fast in so many steps */
     spoil_plan_stores(&t, &plain); /* without a fault: as many subscripts as are used, or a few more */
     try_plan(&t, &plain);
     try_verify(&t, &plain);

@@ -207,16 +207,25 @@ void free_trial(trial *t)
     dlm_factor_free(&t->factor);
 }
 
-void make_run(trial *t, const plain_plan *plain)
+void make_rows(trial *t, plain_choice choice)
 {
     static plain_run run;
     dlm_pattern pattern = trial_pattern(t);
     dlm_system system = trial_system(t);
     size_t k;
-    plain_eliminate(&pattern, &system, AT_RANDOM, NULL, draw, dlm_whole(), &run);
+    plain_eliminate(&pattern, &system, choice, NULL, draw, dlm_whole(), &run);
     resize_numbers(&t->rows, t->size);
     for (k = 1; k <= t->size; k++)
-        t->rows.at[k - 1] = run.pivots[k] != 0 && draw(t->around_limit ? 6 : 60) != 0 ? run.pivots[k] : k + draw(t->size - k + 1);
+        t->rows.at[k - 1] = run.pivots[k];
+}
+
+void make_run(trial *t, const plain_plan *plain)
+{
+    size_t k;
+    make_rows(t, AT_RANDOM);
+    for (k = 1; k <= t->size; k++)
+        if (t->rows.at[k - 1] == 0 || draw(t->around_limit ? 6 : 60) == 0)
+            t->rows.at[k - 1] = k + draw(t->size - k + 1);
     t->listed = draw(2) == 0;
     t->extent = draw(3) == 0 ? dlm_cut(draw(t->size + 1)) : dlm_whole();
     make_results(t, plain);

@@ -36,6 +36,9 @@ void free_trial(trial *t);
 void spoil_pattern(trial *t);
 void spoil_plan_stores(trial *t, const plain_plan *plain);
 
+/* The pivot rows of a plain run whose rows are chosen so; 0 where it stops. */
+void make_rows(trial *t, plain_choice choice);
+
 /* A row list that the values allow (or, now and then, any list that 12 lets pass; around the limit often), a whole run or a cut one, and
    result stores: slots as the plan counts them or some more. */
 void make_run(trial *t, const plain_plan *plain);
