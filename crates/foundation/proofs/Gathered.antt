@@ -13,9 +13,9 @@ use Rattle.lists.specs.Sets.{member, from, leastAbove, upto}
 use Rattle.lists.proofs.Members.{by-test, or-left, or-right, or-true-cases, fails, not-member-nil, kept-in, kept-passes, in-keep, joined-keeps, joined-part, joined-cases, in-upto, upto-low, upto-high}
 use Rattle.lists.proofs.Least.{least-above, least-least, least-nonzero-member}
 use Rattle.foundation.specs.Pattern.{Pattern, column}
-use Rattle.foundation.specs.Plan.{Side, Planning, list, beforeSteps, unmetRows, brings, fromRows, fromSteps, turn, after}
+use Rattle.foundation.specs.Plan.{Side, Planning, list, beforeSteps, unmetRows, brings, fromSteps, after}
 use Rattle.foundation.specs.Facts.{Plannable}
-use Rattle.foundation.proofs.Steps.{list-later, list-none, joined, plan-list, plan-first}
+use Rattle.foundation.proofs.Steps.{fromRows, list-later, list-none, joined, plan-list, plan-first, turn-met}
 
 -- ---- columns
 
@@ -109,7 +109,7 @@ module _ (p : Pattern) (ok : Plannable p) where
 
   -- A met row has its least column among the steps done.
   pub met-least : (m i : ℕ) → after p m .met i ≡ true → (1 ≤ i) × (i ≤ p .height) × (1 ≤ leastAbove 0 (p .row i)) × (leastAbove 0 (p .row i) ≤ m)
-  unfolding after beforeSteps turn unmetRows
+  unfolding after beforeSteps unmetRows
   met-least zero i e = absurd (false≢true e)
   met-least (suc m) i e =
       let s : Planning = after p m in
@@ -120,18 +120,19 @@ module _ (p : Pattern) (ok : Plannable p) where
       let (a, b, d) = column-parts p (suc m) i c in
       let (low, high) = least-column (suc m) i (omega arith) c in
       (a, b, low, high))
-      (or-true-cases (s .met i) (member i (unmetRows p s (suc m))) e)
+      (or-true-cases (s .met i) (member i (unmetRows p s (suc m))) (rw (turn-met p (suc m) s i) at e))
 
   in-least : (k i : ℕ) → 1 ≤ i → i ≤ p .height → leastAbove 0 (p .row i) ≡ suc k → member i (column p (suc k)) ≡ true
   in-least k i low high q = in-column p (suc k) i low high (rw q at (least-nonzero-member 0 (p .row i) (omega arith)))
 
   -- A row whose least column is among the steps done is met.
   pub least-met : (m i : ℕ) → 1 ≤ i → i ≤ p .height → 1 ≤ leastAbove 0 (p .row i) → leastAbove 0 (p .row i) ≤ m → after p m .met i ≡ true
-  unfolding after turn unmetRows
+  unfolding after unmetRows
   least-met zero i a b low high = absurd (omega arith)
   least-met (suc m) i a b low high =
       let s : Planning = after p m in
-      by-test (s .met i)
+      rw (turn-met p (suc m) s i)
+      (by-test (s .met i)
       (λ t. or-left (s .met i) (member i (unmetRows p s (suc m))) t)
       (λ t.
       elim (decLe (leastAbove 0 (p .row i)) m) [
@@ -139,7 +140,7 @@ module _ (p : Pattern) (ok : Plannable p) where
         | no n ↦
             or-right (s .met i) (member i (unmetRows p s (suc m)))
             (in-keep i (λ j. not (s .met j)) (column p (suc m)) (in-least m i a b (omega arith)) (ap not t))
-      ])
+      ]))
 
   -- A row is first met exactly at its least column.
   pub first-met-at :

@@ -2,6 +2,7 @@
 pub mod Containment
 pub mod Passing
 pub mod Steps
+pub mod InStep
 pub mod Gathered
 pub mod Listed
 pub mod ReadsBound
@@ -19,6 +20,7 @@ pub mod FloatRun
 pub mod LaidBack
 pub mod OwnSlots
 pub mod MetOnce
+pub mod PlanParts
 pub mod JobRoom
 pub mod Digits
 pub mod PrintedLengths

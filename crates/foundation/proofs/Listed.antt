@@ -7,14 +7,14 @@ use Prim.Native.Nat.{ℕ, zero, suc, _+_, _≤_, _<_}
 use native.Mathlib.Decide.{decLe, decLt}
 use native.Mathlib.Omega.{arith}
 use lib.ListN.{length}
-use Rattle.lists.specs.Sets.{member, Ascending, joinAll, from, leastAbove}
+use Rattle.lists.specs.Sets.{member, Ascending, from, leastAbove}
 use Rattle.lists.proofs.Members.{member-head, member-cases, not-member-nil}
 use Rattle.lists.proofs.Order.{member-low, ascending-raise, ascending-joinAll, ascending-from}
 use Rattle.lists.proofs.Least.{least-above, least-least}
 use Rattle.foundation.specs.Pattern.{Pattern}
-use Rattle.foundation.specs.Plan.{Side, lower, upper, Planning, list, brings, fromRows, fromSteps, after}
+use Rattle.foundation.specs.Plan.{Side, lower, upper, Planning, list, brings, fromSteps, after}
 use Rattle.foundation.specs.Facts.{Plannable}
-use Rattle.foundation.proofs.Steps.{list-later, list-none, joined, joins, plan-list}
+use Rattle.foundation.proofs.Steps.{fromRows, list-later, list-none, joined, joins, plan-list}
 use Rattle.foundation.proofs.Gathered.{list-done, list-row, list-step, every-member, first-met-at}
 
 -- ---- a law of lists
@@ -30,7 +30,7 @@ two-members x y (z ∷ []) mx my n =
 two-members x y (z ∷ (w ∷ ws)) mx my n = omega arith
 
 -- the one member of a list of one
-single : (x y : ℕ) → member x (y ∷ []) ≡ true → x ≡ y
+pub single : (x y : ℕ) → member x (y ∷ []) ≡ true → x ≡ y
 single x y e = ⊎-elim (λ (q : x ≡ y). q) (λ none. absurd (not-member-nil x none)) (member-cases x y [] e)
 
 -- ---- the lists
@@ -67,8 +67,13 @@ module _ (p : Pattern) (ok : Plannable p) (m : ℕ) (small : m ≤ p .n) where
 
   -- ---- order and bounds
 
+  -- What the rows first met at a step bring ascends from the step on.
+  pub rows-ascend : (side : Side) (k : ℕ) → 1 ≤ k → k ≤ m → Ascending k (fromRows p side (after p m .firstMet k))
+  unfolding Ascending fromRows
+  rows-ascend side k low high = ascending-joinAll k (brings p side) [] (after p m .firstMet k) tt (λ i e. brings-ascend side k i low high e)
+
   ascends-below : (side : Side) (bound k : ℕ) → k < bound → Ascending k (list (after p m) side k)
-  unfolding Ascending fromSteps fromRows
+  unfolding Ascending fromSteps
   ascends-below side zero k h = absurd (omega arith)
   ascends-below side (suc bound) k h =
       elim (decLe 1 k) [
@@ -76,8 +81,8 @@ module _ (p : Pattern) (ok : Plannable p) (m : ℕ) (small : m ≤ p .n) where
           | yes high ↦
               let s : Planning = after p m in
               rw (plan-list p m k side low high)
-              (ascending-joinAll k (λ l. from k (list s side l)) (joinAll (brings p side) [] (s .firstMet k)) (s .S k)
-              (ascending-joinAll k (brings p side) [] (s .firstMet k) tt (λ i e. brings-ascend side k i low high e))
+              (ascending-joinAll k (λ l. from k (list s side l)) (fromRows p side (s .firstMet k)) (s .S k)
+              (rows-ascend side k low high)
               (λ l e. ascending-from l k (list s side l) (ascends-below side bound l (omega (arith, joined p m l k low e)))))
           | no n ↦ rw (list-later p m k side (omega arith)) tt
         ]

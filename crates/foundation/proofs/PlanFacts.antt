@@ -1,5 +1,5 @@
 -- The facts of the plan: what PlanFacts claims, and the part of it that holds after any number of steps.
-use mathlib.Core.Bool.{Bool, true, not, _&&_, false≢true}
+use mathlib.Core.Bool.{Bool, true, not, _&&_}
 use mathlib.Core.List.{List, [], _∷_}
 use mathlib.Core.Logic.{_↔_, ⊎-elim}
 use mathlib.Core.Path.{_≡_, refl, ap, _∙_}
@@ -13,11 +13,11 @@ use Rattle.lists.proofs.Members.{by-test, and-left, and-right, member-head, mem
 use Rattle.lists.proofs.Order.{member-low, ascending-raise, ascending-keep, same-members-by}
 use Rattle.lists.proofs.Least.{least-member, least-above}
 use Rattle.foundation.specs.Pattern.{Pattern, present}
-use Rattle.foundation.specs.Plan.{Side, lower, upper, Planning, list, brings, fromRows, fromSteps, after, plan}
+use Rattle.foundation.specs.Plan.{Side, lower, upper, Planning, list, brings, fromSteps, after, plan}
 use Rattle.foundation.specs.Subscripts.{kept, only, soleStep}
 use Rattle.foundation.specs.Closed.{Closed}
 use Rattle.foundation.specs.Facts.{Plannable, PlanFacts}
-use Rattle.foundation.proofs.Steps.{joined, plan-list}
+use Rattle.foundation.proofs.Steps.{fromRows, joined, plan-list}
 use Rattle.foundation.proofs.Gathered.{list-row, first-met-at}
 use Rattle.foundation.proofs.Listed.{limit, list-ascends, list-within, low-in-up, further-above, handed-on, list-own, list-many}
 use Rattle.foundation.proofs.ReadsBound.{reads-within}

@@ -13,19 +13,19 @@ use Rattle.lists.proofs.Places.{length-upto}
 use Rattle.lists.proofs.Once.{ascending-once, falling-once}
 use Rattle.lists.proofs.Counting.{total-sum, total-le, total-constant, total-apart, total-once, count-both-ways}
 use Rattle.foundation.specs.Pattern.{Pattern, column}
-use Rattle.foundation.specs.Plan.{Side, lower, upper, Planning, list, unmetRows, turn, after}
+use Rattle.foundation.specs.Plan.{Side, lower, upper, Planning, list, unmetRows, after}
 use Rattle.foundation.specs.Facts.{Plannable, entriesOf, sizesOf}
-use Rattle.foundation.proofs.Steps.{readsOf, joined, S-falls, plan-first, reads-after}
+use Rattle.foundation.proofs.Steps.{readsOf, joined, S-falls, plan-first, reads-after, turn-reads}
 use Rattle.foundation.proofs.Gathered.{first-met-at}
 use Rattle.foundation.proofs.Listed.{limit, list-ascends, list-within}
 
 -- The reads grow from step to step.
 pub reads-grow : (p : Pattern) (t m : ℕ) → t ≤ m → after p t .reads ≤ after p m .reads
-unfolding after turn
+unfolding after
 reads-grow p t zero h = let q : t ≡ 0 = omega arith in rw q (omega arith)
 reads-grow p t (suc m) h =
     elim (decLe t m) [
-      | yes l ↦ omega (arith, reads-grow p t m l)
+      | yes l ↦ omega (arith, reads-grow p t m l, turn-reads p (suc m) (after p m))
       | no n ↦ let q : t ≡ suc m = omega arith in rw q (omega arith)
     ]
 

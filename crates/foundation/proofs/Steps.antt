@@ -1,5 +1,5 @@
 -- How the state of planning develops: what a step leaves as it was, and the equations of the plan.
-use mathlib.Core.Bool.{true, false≢true}
+use mathlib.Core.Bool.{true, false≢true, cond, not, _||_}
 use mathlib.Core.List.{List, [], _∷_}
 use mathlib.Core.Logic.{_⊎_, inl, inr, ⊎-elim}
 use mathlib.Core.Path.{_≡_, refl, sym, ap, _∙_}
@@ -8,17 +8,25 @@ use native.Mathlib.Omega.{arith}
 use lib.Dec.{eqb, ltb}
 use lib.ListN.{length}
 use borrow.Author.Tests.{eqb-true, eqb-false, ltb-true, lt-ltb}
-use Rattle.lists.specs.Functions.{update, total}
-use Rattle.lists.specs.Sets.{member, from, leastAbove, upto, run, Falling}
+use Rattle.lists.specs.Functions.{update, total, empty}
+use Rattle.lists.specs.Sets.{member, joinAll, from, leastAbove, upto, run, Falling}
 use Rattle.lists.proofs.Members.{by-test, or-left, or-right, or-true-cases, member-head, member-tail, member-cases, not-member-nil, joinAll-cong}
 use Rattle.lists.proofs.Places.{update-same, update-other, upto-snoc, total-append}
 use Rattle.lists.proofs.Least.{least-nonzero-above}
 use Rattle.lists.proofs.Counting.{total-cong}
 use Rattle.lists.proofs.Once.{falling-weaken}
 use Rattle.foundation.specs.Pattern.{Pattern, column}
-use Rattle.foundation.specs.Plan.{Side, lower, upper, Planning, list, beforeSteps, unmetRows, fromRows, fromSteps, gathered, handOn, readsAt, turn, after}
+use Rattle.foundation.specs.Plan.{Side, lower, upper, Planning, list, beforeSteps, unmetRows, brings, fromSteps, handOn, readsOfRows, readsOfSteps, InStep, initialized, rowsObtained, influenced, stepsCollected, setsUpdated, collectedIfInfluenced, turn, after}
 
--- ---- a law of lists
+-- ---- a step at once
+
+-- 2.1 and 2.2: from the empty list, what the rows first met bring
+unfoldable pub fromRows : Pattern → Side → List ℕ → List ℕ
+fromRows p side rows = joinAll (brings p side) [] rows
+
+-- L_k or U_k: what the rows first met bring, and what the steps in S_k hand on
+unfoldable pub gathered : Pattern → Planning → Side → ℕ → List ℕ
+gathered p s side k = fromSteps s side k (fromRows p side (unmetRows p s k))
 
 -- what step k reads, said of the state after it or of any later one
 unfoldable pub readsOf : Pattern → Planning → ℕ → ℕ
@@ -69,13 +77,52 @@ module _ (k : ℕ) (lk uk : List ℕ) (S : ℕ → List ℕ) where
       (λ q. rw (e, q) (falling-weaken k (suc k) (S j) (omega arith) h)))
       (λ e. rw e (falling-weaken k (suc k) (S j) (omega arith) h))
 
+-- ---- 2.3
+
+more-none : (n : ℕ) → n + 0 ≡ n
+more-none n = omega arith
+
+-- Where S_k is empty, 2.4 would add nothing: passed over or not, it leaves the same.
+pub collected-all : (k : ℕ) (t : InStep) → collectedIfInfluenced k t ≡ stepsCollected k t
+unfolding collectedIfInfluenced influenced stepsCollected fromSteps readsOfSteps joinAll total empty
+collected-all k t = at (t .known .S k) refl
+  where
+    at : (steps : List ℕ) → t .known .S k ≡ steps → cond (not (empty (t .known .S k))) (stepsCollected k t) t ≡ stepsCollected k t
+    at [] e = rw (e, more-none (t .known .reads)) refl
+    at (l ∷ ls) e = rw e refl
+
+-- The five parts of a step with 2.4 in every case.
+unfoldable turned : Pattern → ℕ → Planning → Planning
+turned p k s = setsUpdated k (stepsCollected k (rowsObtained p k (initialized s)))
+
+turn-whole : (p : Pattern) (k : ℕ) (s : Planning) → turn p k s ≡ turned p k s
+unfolding turn turned
+turn-whole p k s = ap (setsUpdated k) (collected-all k (rowsObtained p k (initialized s)))
+
 module _ (p : Pattern) where
   -- ---- one step
 
   turn-list : (k : ℕ) (s : Planning) (side : Side) (l : ℕ) → list (turn p k s) side l ≡ update (list s side) k (gathered p s side k) l
-  unfolding turn list
-  turn-list k s lower l = refl
-  turn-list k s upper l = refl
+  unfolding turned setsUpdated stepsCollected rowsObtained initialized gathered fromRows fromSteps list
+  turn-list k s lower l = rw (turn-whole p k s) refl
+  turn-list k s upper l = rw (turn-whole p k s) refl
+
+  -- What a step does to the rest of what planning knows.
+  pub turn-met : (k : ℕ) (s : Planning) (i : ℕ) → turn p k s .met i ≡ s .met i || member i (unmetRows p s k)
+  unfolding turned setsUpdated stepsCollected rowsObtained initialized
+  turn-met k s i = rw (turn-whole p k s) refl
+
+  turn-first : (k : ℕ) (s : Planning) → turn p k s .firstMet ≡ update (s .firstMet) k (unmetRows p s k)
+  unfolding turned setsUpdated stepsCollected rowsObtained initialized
+  turn-first k s = rw (turn-whole p k s) refl
+
+  pub turn-S : (k : ℕ) (s : Planning) → turn p k s .S ≡ handOn k (gathered p s lower k) (gathered p s upper k) (s .S)
+  unfolding turned setsUpdated stepsCollected rowsObtained initialized gathered fromRows fromSteps list
+  turn-S k s = rw (turn-whole p k s) refl
+
+  pub turn-reads : (k : ℕ) (s : Planning) → turn p k s .reads ≡ s .reads + readsOfRows p s k + readsOfSteps s k
+  unfolding turned setsUpdated stepsCollected rowsObtained initialized readsOfSteps
+  turn-reads k s = rw (turn-whole p k s) refl
 
   -- A step changes its own lists alone.
   pub turn-list-other : (k : ℕ) (s : Planning) (side : Side) (l : ℕ) → (l ≡ k → ⊥) → list (turn p k s) side l ≡ list s side l
@@ -87,18 +134,15 @@ module _ (p : Pattern) where
 
   -- A step sets the rows first met at it alone.
   pub turn-first-other : (k : ℕ) (s : Planning) (l : ℕ) → (l ≡ k → ⊥) → turn p k s .firstMet l ≡ s .firstMet l
-  unfolding turn
-  turn-first-other k s l n = update-other (s .firstMet) k (unmetRows p s k) l n
+  turn-first-other k s l n = ap (λ (f : ℕ → List ℕ). f l) (turn-first k s) ∙ update-other (s .firstMet) k (unmetRows p s k) l n
 
   -- The rows first met at a step are the unmet ones of its column.
   pub turn-first-own : (k : ℕ) (s : Planning) → turn p k s .firstMet k ≡ unmetRows p s k
-  unfolding turn
-  turn-first-own k s = update-same (s .firstMet) k (unmetRows p s k)
+  turn-first-own k s = ap (λ (f : ℕ → List ℕ). f k) (turn-first k s) ∙ update-same (s .firstMet) k (unmetRows p s k)
 
   -- A step leaves the sets of the steps done as they were.
   pub turn-S-other : (k : ℕ) (s : Planning) (j : ℕ) → 1 ≤ j → j ≤ k → turn p k s .S j ≡ s .S j
-  unfolding turn
-  turn-S-other k s j = hand-other k (gathered p s lower k) (gathered p s upper k) (s .S) j
+  turn-S-other k s j low high = ap (λ (f : ℕ → List ℕ). f j) (turn-S k s) ∙ hand-other k (gathered p s lower k) (gathered p s upper k) (s .S) j low high
 
   -- ---- steps that leave things as they were
 
@@ -145,7 +189,7 @@ module _ (p : Pattern) where
   pub joined :
       (m l k : ℕ) → 1 ≤ k → member l (after p m .S k) ≡ true
       → (1 ≤ l) × (l ≤ m) × (l < k) × (leastAbove l (after p m .U l) ≡ k) × (1 < length (after p m .L l))
-  unfolding after list beforeSteps turn
+  unfolding after list beforeSteps
   joined zero l k low e = absurd (not-member-nil l e)
   joined (suc m) l k low e =
       let s : Planning = after p m in
@@ -159,11 +203,11 @@ module _ (p : Pattern) where
       let before = joined m l k low old in
       rw (turn-list-other (suc m) s upper l (omega arith), turn-list-other (suc m) s lower l (omega arith))
       (before .0, omega arith, before .2, before .3, before .4))
-      (hand-cases (suc m) lk uk (s .S) l k e)
+      (hand-cases (suc m) lk uk (s .S) l k (rw (turn-S (suc m) s) at e))
 
   -- A step done with more than one member in its L is in the set of its least further member of U.
   pub joins : (m l : ℕ) → 1 ≤ l → l ≤ m → 1 < length (after p m .L l) → member l (after p m .S (leastAbove l (after p m .U l))) ≡ true
-  unfolding after list turn
+  unfolding after list
   joins zero l low h many = absurd (omega arith)
   joins (suc m) l low h many =
       let s : Planning = after p m in
@@ -172,17 +216,19 @@ module _ (p : Pattern) where
       by-test (eqb l (suc m))
       (λ e.
       let q : l ≡ suc m = eqb-true l (suc m) e in
-      rw (q, turn-list-own (suc m) s upper) (hand-joins (suc m) lk uk (s .S) (rw (q, turn-list-own (suc m) s lower) at many)))
+      rw (q, turn-list-own (suc m) s upper, turn-S (suc m) s) (hand-joins (suc m) lk uk (s .S) (rw (q, turn-list-own (suc m) s lower) at many)))
       (λ e.
       let n : l ≡ suc m → ⊥ = eqb-false l (suc m) e in
-      rw (turn-list-other (suc m) s upper l n)
+      rw (turn-list-other (suc m) s upper l n, turn-S (suc m) s)
       (hand-keeps (suc m) lk uk (s .S) l (leastAbove l (s .U l)) (joins m l low (omega arith) (rw (turn-list-other (suc m) s lower l n) at many))))
 
   -- The sets S fall: the newest step stands first.
   pub S-falls : (m k : ℕ) → Falling (suc m) (after p m .S k)
-  unfolding after beforeSteps Falling turn
+  unfolding after beforeSteps Falling
   S-falls zero k = tt
-  S-falls (suc m) k = hand-falls (suc m) (gathered p (after p m) lower (suc m)) (gathered p (after p m) upper (suc m)) (after p m .S) k (S-falls m k)
+  S-falls (suc m) k =
+      rw (turn-S (suc m) (after p m))
+      (hand-falls (suc m) (gathered p (after p m) lower (suc m)) (gathered p (after p m) upper (suc m)) (after p m .S) k (S-falls m k))
 
   -- ---- the plan's equations
 
@@ -213,33 +259,36 @@ module _ (p : Pattern) where
       (joinAll-cong (λ l. from (suc k) (list (after p k) side l)) (λ l. from (suc k) (list s side l)) _ (s .S (suc k))
       (λ l e. ap (from (suc k)) (sym (list-frame m k l side (omega (arith, joined m l (suc k) low e)) (omega arith)))))
 
-  -- What a step reads may be said of any later state.
-  pub plan-readsAt : (m k : ℕ) → k < m → readsAt p (after p k) (suc k) ≡ readsOf p (after p m) (suc k)
-  unfolding readsAt readsOf list
-  plan-readsAt m k h =
+  -- What a step reads, of the rows that it meets and of the steps in its set, may be said of any later state.
+  pub plan-rows-read : (m k : ℕ) → k < m → readsOfRows p (after p k) (suc k) ≡ length (column p (suc k)) + total (λ i. length (p .row i)) (after p m .firstMet (suc k))
+  unfolding readsOfRows
+  plan-rows-read m k h = rw (plan-first m k h) refl
+
+  pub plan-steps-read : (m k : ℕ) → k < m → readsOfSteps (after p k) (suc k) ≡ total (λ l. length (after p m .L l) + length (after p m .U l)) (after p m .S (suc k))
+  unfolding readsOfSteps list
+  plan-steps-read m k h =
       let s : Planning = after p m in
       let t : Planning = after p k in
-      rw (← plan-first m k h, ← plan-S m k h)
-      (ap (λ (x : ℕ). length (column p (suc k)) + (total (λ i. length (p .row i)) (s .firstMet (suc k)) + x))
+      rw (← plan-S m k h)
       (total-cong (λ l. length (t .L l) + length (t .U l)) (λ l. length (s .L l) + length (s .U l)) (s .S (suc k))
       (λ l e.
       let done = joined m l (suc k) (omega arith) e in
-      rw (list-frame m k l lower (omega arith) (omega arith), list-frame m k l upper (omega arith) (omega arith)))))
+      rw (list-frame m k l lower (omega arith) (omega arith), list-frame m k l upper (omega arith) (omega arith))))
 
   -- The reads after t steps are the sum of what the steps 1 to t read.
   pub reads-after : (m t : ℕ) → t ≤ m → after p t .reads ≡ total (readsOf p (after p m)) (upto t)
-  unfolding after beforeSteps turn total upto run
+  unfolding after beforeSteps total upto run readsOf
   reads-after m zero h = refl
   reads-after m (suc t) h =
       let f : ℕ → ℕ = readsOf p (after p m) in
       let split : total f (upto (suc t)) ≡ total f (upto t) + total f (suc t ∷ []) = ap (total f) (upto-snoc t) ∙ total-append f (upto t) (suc t ∷ []) in
-      omega (arith, split, reads-after m t (omega arith), plan-readsAt m t h)
+      omega (arith, split, reads-after m t (omega arith), plan-rows-read m t h, plan-steps-read m t h, turn-reads (suc t) (after p t))
 
   -- ---- met rows
 
   -- A met row was first met at some step done.
   pub met-somewhere : (m i : ℕ) → after p m .met i ≡ true → (l : ℕ) × (1 ≤ l) × (l ≤ m) × (member i (after p m .firstMet l) ≡ true)
-  unfolding after beforeSteps turn
+  unfolding after beforeSteps
   met-somewhere zero i e = absurd (false≢true e)
   met-somewhere (suc m) i e =
       let s : Planning = after p m in
@@ -248,16 +297,17 @@ module _ (p : Pattern) where
       let before = met-somewhere m i old in
       (before .0, before .1, omega arith, rw (turn-first-other (suc m) s (before .0) (omega arith)) (before .3)))
       (λ new. (suc m, omega arith, omega arith, rw (turn-first-own (suc m) s) new))
-      (or-true-cases (s .met i) (member i (unmetRows p s (suc m))) e)
+      (or-true-cases (s .met i) (member i (unmetRows p s (suc m))) (rw (turn-met (suc m) s i) at e))
 
   -- A row first met at some step done is met.
   pub met-since : (m i l : ℕ) → 1 ≤ l → l ≤ m → member i (after p m .firstMet l) ≡ true → after p m .met i ≡ true
-  unfolding after turn
+  unfolding after
   met-since zero i l low h e = absurd (omega arith)
   met-since (suc m) i l low h e =
       let s : Planning = after p m in
-      by-test (eqb l (suc m))
+      rw (turn-met (suc m) s i)
+      (by-test (eqb l (suc m))
       (λ t. or-right (s .met i) (member i (unmetRows p s (suc m))) (rw (eqb-true l (suc m) t, turn-first-own (suc m) s) at e))
       (λ t.
       let n : l ≡ suc m → ⊥ = eqb-false l (suc m) t in
-      or-left (s .met i) (member i (unmetRows p s (suc m))) (met-since m i l low (omega arith) (rw (turn-first-other (suc m) s l n) at e)))
+      or-left (s .met i) (member i (unmetRows p s (suc m))) (met-since m i l low (omega arith) (rw (turn-first-other (suc m) s l n) at e))))

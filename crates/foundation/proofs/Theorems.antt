@@ -17,6 +17,7 @@ use Rattle.foundation.specs.Claims.{FirstHalf, RunsOn, SlotsSuffice, Mul
 use Rattle.foundation.specs.Claims.Offsets.{ReadsTexts, OtherTexts, WithinHalf, OnlyNearest, BeyondLargest, FloatEqual, ZeroWithPlus, WrittenReads, ReadWrites}
 use Rattle.foundation.specs.Claims.Tallies.{CountersAreSums, SixteenCounters, OutsideMembers, FullCounters, OtherLengths, NewSums, OwnCounterAlone, RefusalKeeps}
 use Rattle.foundation.specs.Claims.Loads.{LoadLimits, NoDivisors, OtherSizes, EntriesAnswered, RefusedLoads, LoadsStand, LoadsPass, LoadsFinite, SmallWholes, PlacesDrawn, ValuesDrawn, RightSidesDrawn, WholeSquares}
+use Rattle.foundation.specs.Claims.PlanParts.{LocalInitialization, RowsObtained, StepsTested, InfluenceCollected, SetsUpdated, ReadsOfParts}
 use Rattle.foundation.proofs.Passing.{passes-plannable, passes-entries}
 use Rattle.foundation.proofs.Steps.{list-none}
 use Rattle.foundation.proofs.PlanFacts.{plan-facts}
@@ -48,6 +49,7 @@ use Rattle.foundation.proofs.TallySums
 use Rattle.foundation.proofs.LoadAnswers
 use Rattle.foundation.proofs.Loads
 use Rattle.foundation.proofs.LoadNumbers
+use Rattle.foundation.proofs.PlanParts
 
 -- the plan's facts
 pub plan-has-its-facts : (most : ℕ) (p : Lent) → patternFault most p ≡ 0 → PlanFacts (patternOf p) (plan (patternOf p))
@@ -105,6 +107,26 @@ slots-within = OwnSlots.slots-within
 -- each row is met exactly once
 pub met-once : MetOnce
 met-once = met-once-from plan-facts passes-plannable
+
+-- what the lists, the met rows and the sets S hold after each of the report's 2.1 to 2.5, at every step
+pub local-initialization : LocalInitialization
+local-initialization = PlanParts.local-initialization
+
+pub rows-obtained : RowsObtained
+rows-obtained = PlanParts.rows-obtained
+
+pub steps-tested : StepsTested
+steps-tested = PlanParts.steps-tested
+
+pub influence-collected : InfluenceCollected
+influence-collected = PlanParts.influence-collected
+
+pub sets-updated : SetsUpdated
+sets-updated = PlanParts.sets-updated
+
+-- and what each of them reads
+pub reads-of-parts : ReadsOfParts
+reads-of-parts = PlanParts.reads-of-parts
 
 -- the program's stores fit but for their room of 2,048
 pub job-room : JobRoom

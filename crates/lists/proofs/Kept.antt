@@ -1,6 +1,6 @@
 -- The members that pass a test: all of them, those of a union.
 use mathlib.Core.Path.{_≡_, refl, ap, _∙_}
-use mathlib.Core.Bool.{Bool, true, not, and-or-distrib-right}
+use mathlib.Core.Bool.{Bool, true, false, not, and-or-distrib-right}
 use mathlib.Core.List.{List, [], _∷_}
 use Prim.Native.Nat.{ℕ, suc}
 use native.Mathlib.Omega.{arith}
@@ -22,6 +22,12 @@ pub keep-all : (t : ℕ → Bool) (xs : List ℕ) → ((x : ℕ) → member x xs
 unfolding keep
 keep-all t [] pass = refl
 keep-all t (x ∷ xs) pass = rw (pass x (member-head x xs), keep-all t xs (λ z m. pass z (member-tail z x xs m)))
+
+-- where no member passes, nothing is kept
+pub keep-nothing : (t : ℕ → Bool) (xs : List ℕ) → ((x : ℕ) → member x xs ≡ true → t x ≡ false) → keep t xs ≡ []
+unfolding keep
+keep-nothing t [] none = refl
+keep-nothing t (x ∷ xs) none = rw (none x (member-head x xs)) (keep-nothing t xs (λ y m. none y (member-tail y x xs m)))
 
 -- what is kept of a union is the union of what is kept
 pub keep-union : (a : ℕ) (t : ℕ → Bool) (xs ys : List ℕ) → Ascending a xs → Ascending a ys → keep t (union xs ys) ≡ union (keep t xs) (keep t ys)

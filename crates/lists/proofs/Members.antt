@@ -3,10 +3,10 @@ use mathlib.Core.Path.{_≡_, refl, sym, _∙_}
 use mathlib.Core.Logic.{_⊎_, inl, inr, ⊎-elim}
 use mathlib.Core.Bool.{Bool, true, false, cond, _&&_, _||_, false≢true, or-assoc, or-true, and-true, and-false, and-or-distrib-right}
 use mathlib.Core.List.{List, [], _∷_, _++_}
-use Prim.Native.Nat.{ℕ, zero, suc, _+_, _-_, _≤_, _<_}
+use Prim.Native.Nat.{ℕ, zero, suc, _+_, _-_, _≤_, _<_, suc-le-suc}
 use native.Mathlib.Omega.{arith}
 use lib.Dec.{eqb, ltb}
-use lib.ListN.{drop}
+use lib.ListN.{length, drop}
 use borrow.Author.Tests.{eqb-true, eqb-false, eq-eqb, ne-eqb, lt-ltb, le-ltb}
 use Rattle.lists.specs.Functions.{keep, all, empty, same}
 use Rattle.lists.specs.Sets.{member, run, upto, between, mergeOne, union, joinAll}
@@ -190,6 +190,20 @@ unfolding union mergeOne
 union-equal x y xs ys h =
     let l : ltb x y ≡ false = le-ltb x y (omega arith) in
     rw (l, eq-eqb x y h)
+
+-- a merge with one more member is longer by one at least
+mergeOne-length : (x n : ℕ) (rest : List ℕ → List ℕ) → ((ys : List ℕ) → n ≤ length (rest ys)) → (ys : List ℕ) → suc n ≤ length (mergeOne x rest ys)
+unfolding mergeOne
+mergeOne-length x n rest h [] = suc-le-suc (h [])
+mergeOne-length x n rest h (y ∷ ys) = by-test (ltb x y) (λ l. rw l (suc-le-suc (h (y ∷ ys)))) λ l. by-test (eqb x y)
+    (λ e. rw (l, e) (suc-le-suc (h ys)))
+    (λ e. rw (l, e) (let longer = mergeOne-length x n rest h ys in omega arith))
+
+-- a union is no shorter than its first list
+pub union-length : (xs ys : List ℕ) → length xs ≤ length (union xs ys)
+unfolding union
+union-length [] ys = omega arith
+union-length (x ∷ xs) ys = mergeOne-length x (length xs) (union xs) (union-length xs) ys
 
 -- a test named twice in a disjunction counts once
 once : (a m r : Bool) → a || (m || r) ≡ a || (m || (a || r))

@@ -1,37 +1,42 @@
 -- One row joins the list of the step before: what the list of the step then is, and how much of it the store has already.
-use mathlib.Core.Bool.{true, or-comm}
+use mathlib.Core.Bool.{true, not, or-comm}
 use mathlib.Core.List.{List, [], _∷_, _++_, append-nil}
 use mathlib.Core.Path.{_≡_, refl, sym, ap, _∙_}
 use Prim.Native.Nat.{ℕ, zero, suc, _+_, _-_, _*_, _^_, _≤_, _<_}
 use native.Mathlib.Nat.{sub-zero}
 use native.Mathlib.Omega.{arith}
+use mir.Syntax.{w64}
+use mir.Val.{Fits}
 use lib.Dec.{eqb}
 use lib.ListN.{length, take, drop, getD, length-append, length-drop, List·getD-append}
-use lib.Seq.{drop-drop, drop-at, getD-drop, take-all, take-append-seam, length-take-le}
+use lib.Seq.{drop-drop, drop-at, getD-drop, take-append-seam, length-take-le}
 use borrow.Author.Tests.{eqb-true, eq-eqb, ne-eqb}
-use Rattle.lists.specs.Functions.{empty}
-use Rattle.lists.specs.Sets.{member, Ascending, union, joinAll, overlap}
-use Rattle.lists.proofs.Members.{by-test, member-head, member-union, union-nil-right}
-use Rattle.lists.proofs.Order.{ascending-union, same-members}
+use Rattle.lists.specs.Sets.{member, leastAbove, Ascending, union, joinAll, overlap}
+use Rattle.lists.proofs.Members.{by-test, in-keep, member-head, member-union, not-member-nil, union-nil-right}
+use Rattle.lists.proofs.Order.{ascending-union, member-first, same-members}
+use Rattle.lists.proofs.Least.{least-nonzero-member}
 use Rattle.lists.proofs.Overlap.{last-same, overlap-is}
 use Rattle.lists.proofs.Places.{ascending-below, slice-part}
-use Rattle.foundation.specs.Pattern.{Lent, lent, patternOf, maxEntries}
-use Rattle.foundation.specs.Plan.{Side, lower, upper, brings}
+use Rattle.foundation.specs.Pattern.{Lent, lent, patternOf, rowOf}
+use Rattle.foundation.specs.Plan.{Side, lower, upper, list, brings, plan}
 use Rattle.foundation.specs.PlanCall.{SideStores}
-use Rattle.foundation.specs.Subscripts.{kept, shared, sharedEnd, soleStep}
+use Rattle.foundation.specs.Subscripts.{kept, shared, sharedEnd}
+use Rattle.foundation.proofs.Steps.{joined}
 use Rattle.store_place.specs.Places.{ListAsks, ListAt}
 use Rattle.store_lists.proofs.Chaining.{linked-end, linked-next}
+use Rattle.store_search.specs.Behind.{BehindAs}
+use Rattle.store_search.specs.declared.searching.Behind.the-variants.{From}
 use Rattle.store_search.proofs.Passing.{behind-nothing, passed-none, passed-behind}
 use Rattle.plan_gather.specs.Ready.{planOf}
 use Rattle.plan_gather.specs.Gathering.{without, Within}
 use Rattle.plan_gather.specs.Steps.{StepOf, ChainsOf, SideAt}
-use Rattle.plan_gather.proofs.Chaining.{handed-some}
+use Rattle.plan_gather.proofs.Chaining.{first-in, handed-some, row-ends, row-is, row-rises, row-some, starts-size}
 use Rattle.plan_gather.proofs.Contains.{Opened, opened-asks, opened-inside, opened-list, kept-within}
 use Rattle.plan_gather.proofs.Joining.{without-within}
-use Rattle.plan_gather.proofs.Gathering.{brings-within, from-rows-is, from-steps-is, handed-within, RowRead, row-turn, upper-brings}
+use Rattle.plan_gather.proofs.Gathering.{brings-within, from-rows-is, from-steps-is, steps-kept, handed-within, RowRead}
 use Rattle.plan_share.specs.Adding.{RestOf}
 use Rattle.plan_share.proofs.Adding.{side-opens}
-use Rattle.plan_append.specs.Joining.{ChainsJoin, JoinsLast, JoinedAs, AddedAs}
+use Rattle.plan_append.specs.Joining.{ChainsJoin, JoinsLast, AddedAs}
 use Rattle.plan_append.specs.declared.appended.Added.{Added}
 use Rattle.plan_append.specs.declared.appended.Added.the-variants.{Behind, Elsewhere}
 
@@ -44,7 +49,7 @@ union-turned low xs ys a b =
     (λ x. member-union x xs ys ∙ or-comm (member x xs) (member x ys) ∙ sym (member-union x ys xs))
 
 -- a list without its own step is a part of it
-pub without-drop : (k : ℕ) (xs : List ℕ) → without k xs ≡ drop (length xs - length (without k xs)) xs
+without-drop : (k : ℕ) (xs : List ℕ) → without k xs ≡ drop (length xs - length (without k xs)) xs
 unfolding without
 without-drop k [] = refl
 without-drop k (x ∷ xs) =
@@ -52,7 +57,7 @@ without-drop k (x ∷ xs) =
     (λ e. let one : suc (length xs) - length xs ≡ 1 = omega arith in rw (e, one))
     (λ e. let none : suc (length xs) - suc (length xs) ≡ 0 = omega arith in rw (e, none))
 
-pub without-length : (k : ℕ) (xs : List ℕ) → length (without k xs) ≤ length xs
+without-length : (k : ℕ) (xs : List ℕ) → length (without k xs) ≤ length xs
 unfolding without
 without-length k [] = omega arith
 without-length k (x ∷ xs) = by-test (eqb x k) (λ e. rw e (omega arith)) (λ e. rw e (omega arith))
@@ -93,20 +98,39 @@ overlap-behind k from store last rest ends some up =
     let at : getD (k ∷ new) u 0 ≡ getD new (u - 1) 0 = behind-first k new u (omega arith) in
     omega (arith, last-same store new u (omega arith) a e)
 
--- a list that stands behind another from a place on, both without k
-pub joined-as :
-    (k at : ℕ) (last more have comes : List ℕ) → have ≡ without k last → comes ≡ without k more
-    → (at ≤ length comes) × ((low : ℕ) → Ascending low have → union have comes ≡ have ++ drop at comes)
-    → (length have ≡ length (without k last))
-    × (length more - length comes + at ≤ length more)
-    × ((low : ℕ) → Ascending low (without k last)
-    → union (without k last) (without k more) ≡ without k last ++ drop (length more - length comes + at) more)
-joined-as k at last more have comes h c (inside, behind) =
-    let fewer = without-length k more in
-    let size : length comes ≡ length (without k more) = ap length c in
-    let part : drop at comes ≡ drop (length more - length comes + at) more =
-    ap (drop at) (c ∙ without-drop k more ∙ rw (← size)) ∙ drop-drop at (length more - length comes) more in
-    (ap length h, omega arith, λ low up. rw (← h, ← c) (behind low (rw h up) ∙ ap (λ (xs : List ℕ). have ++ xs) part))
+-- how a list lies to the one before it, both without k
+abbrev pub JoinedAs : Added → ℕ → List ℕ → List ℕ → Type 0
+JoinedAs (Behind shared from) k last more =
+    (shared ≡ length (without k last))
+    × (from ≤ length more)
+    × ((low : ℕ) → Ascending low (without k last) → union (without k last) (without k more) ≡ without k last ++ drop from more)
+JoinedAs Elsewhere k last more = Unit
+
+-- a list begins with k
+pub record Led (k : ℕ) (xs : List ℕ) : Type 0 where
+  pub some : 0 < length xs
+  pub rest : without k xs ≡ drop 1 xs
+
+-- as one does that ascends from k and has it
+led : (k : ℕ) (xs : List ℕ) → Ascending k xs → member k xs ≡ true → Led k xs
+unfolding without Ascending
+led k [] up m = absurd (not-member-nil k m)
+led k (x ∷ xs) up m =
+    let first = member-first k k x xs up m in
+    record { some = omega arith; rest = rw (eq-eqb x k (omega (arith, up .0))) }
+
+-- one that begins with k stands behind another that does from a place on, both without k
+pub led-joined :
+    (k at : ℕ) (last more have comes : List ℕ) → Led k last → Led k more → have ≡ drop 1 last → comes ≡ drop 1 more → BehindAs (From at) have comes
+    → JoinedAs (Behind (length have) (at + 1)) k last more
+led-joined k at last more have comes a b h c (inside, behind) =
+    let some = b .some in
+    let size : length comes ≡ length more - 1 = ap length c ∙ length-drop 1 more in
+    let next : 1 + at ≡ at + 1 = omega arith in
+    let part : drop at comes ≡ drop (at + 1) more = ap (drop at) c ∙ drop-drop at 1 more ∙ rw next in
+    let first : have ≡ without k last = h ∙ sym (a .rest) in
+    let second : comes ≡ without k more = c ∙ sym (b .rest) in
+    (ap length first, omega arith, λ low up. rw (← first, ← second) (behind low (rw first up) ∙ ap (λ (xs : List ℕ). have ++ xs) part))
 
 -- one row behind another list: it is k itself, or stands behind the last member
 own-alone : (k row : ℕ) → (row ≡ k → ⊥) → without k (row ∷ []) ≡ row ∷ []
@@ -136,7 +160,7 @@ take-none zero = refl
 take-none (suc count) = refl
 
 -- a part of the first places
-pub drop-front : (t count : ℕ) (xs : List ℕ) → drop t (take count xs) ≡ take (count - t) (drop t xs)
+drop-front : (t count : ℕ) (xs : List ℕ) → drop t (take count xs) ≡ take (count - t) (drop t xs)
 drop-front zero count xs = rw sub-zero
 drop-front (suc t) zero xs = let e : zero - suc t ≡ 0 = omega arith in rw e
 drop-front (suc t) (suc count) [] = sym (take-none (suc count - suc t))
@@ -166,19 +190,24 @@ module _ {p : Lent} {n k row set : ℕ} {rowLinks setLinks : List ℕ} (of : Ste
 -- ---- the list of the step
 
 module _ {p : Lent} {n k row : ℕ} (j : JoinsLast p n k row) where
-  -- it does not share the list of a sole step
-  pub joins-not-sole : soleStep (planOf p) k ≡ 0
-  unfolding soleStep empty
-  joins-not-sole = rw (j .rows)
-
   high : k ≤ p .n
   high = let a = j .step .high in let e = j .step .same-n in omega arith
 
-  pub row-met : member row (planOf p .firstMet k) ≡ true
+  row-met : member row (planOf p .firstMet k) ≡ true
   row-met = rw (j .rows) (member-head row [])
 
   step-handed : member (k - 1) (planOf p .S k) ≡ true
   step-handed = rw (j .steps) (member-head (k - 1) [])
+
+  -- k is the least member of U of step k-1 behind k-1
+  last-led : Led k (kept (planOf p) upper (k - 1))
+  unfolding kept list planOf plan patternOf
+  last-led =
+      let low = j .step .low in
+      let least : leastAbove (k - 1) (planOf p .U (k - 1)) ≡ k = joined (patternOf p) (p .n) (k - 1) k low step-handed .3 in
+      let listed : member k (planOf p .U (k - 1)) ≡ true = rw least at (least-nonzero-member (k - 1) (planOf p .U (k - 1)) (λ e. omega arith)) in
+      led k _ (handed-within p (j .step .ready) k low high upper (k - 1) step-handed .ascending)
+      (in-keep k (λ x. not (eqb x (k - 1))) (planOf p .U (k - 1)) listed (ap not (ne-eqb k (k - 1) (λ e. omega arith))))
 
   module _ (side : Side) where
     -- both lists without k, joined
@@ -188,7 +217,7 @@ module _ {p : Lent} {n k row : ℕ} (j : JoinsLast p n k row) where
         let ready = j .step .ready in
         let low = j .step .low in
         let rows = rw (j .rows) at (from-rows-is p ready k low high side) in
-        sym (from-steps-is p ready k low high side) ∙ rw (j .steps, j .rows, ← rows)
+        sym (steps-kept p ready k low high side) ∙ sym (from-steps-is p ready k low high side) ∙ rw (j .steps, ← rows)
 
     last-within : Within (suc k) (p .n) (without k (kept (planOf p) side (k - 1)))
     last-within = without-within k (p .n) _ (handed-within p (j .step .ready) k (j .step .low) high side (k - 1) step-handed)
@@ -220,9 +249,45 @@ module _ {p : Lent} {n k row : ℕ} (j : JoinsLast p n k row) where
 
 -- ---- what is read
 
--- the row first met
-pub row-of : {n : ℕ} {starts columns : List ℕ} {k row : ℕ} → JoinsLast (lent n starts columns) n k row → RowRead n starts columns row
-row-of {n} {starts} {columns} {k} {row} j = row-turn n starts columns (j .step .ready) k (j .step .low) (j .step .high) row (row-met j)
+-- The row first met: its columns, which begin with k, and those behind k.
+pub record LedRow (n : ℕ) (starts columns : List ℕ) (k row : ℕ) : Type 0 where
+  pub read : RowRead n starts columns row
+  pub rising : getD starts (row - 1) 0 + 1 ≤ getD starts row 0
+  pub led-by : Led k (brings (patternOf (lent n starts columns)) upper row)
+  pub rest :
+      take (getD starts row 0 - (getD starts (row - 1) 0 + 1)) (drop (getD starts (row - 1) 0 + 1) columns)
+      ≡ drop 1 (brings (patternOf (lent n starts columns)) upper row)
+
+pub led-row : {n : ℕ} {starts columns : List ℕ} {k row : ℕ} → JoinsLast (lent n starts columns) n k row → LedRow n starts columns k row
+unfolding brings patternOf lent
+led-row {n} {starts} {columns} {k} {row} j =
+    let p : Lent = lent n starts columns in
+    let ready = j .step .ready in
+    let (low, high, least) = first-in p ready k row (j .step .low) (j .step .high) (row-met j) in
+    let a : ℕ = getD starts (row - 1) 0 in
+    let b : ℕ = getD starts row 0 in
+    let rising : a ≤ b = row-rises p ready row low high in
+    let less : b - a - 1 ≡ b - (a + 1) = omega arith in
+    let is : take (b - a) (drop a columns) ≡ rowOf p row = slice-part a b columns rising ∙ sym (row-is p ready row low high) in
+    record {
+      read = record { low = low; high = high; size = starts-size p ready; rising = rising; inside = row-ends p ready row low high; is = is };
+      rising = omega (arith, row-some p ready row low high);
+      led-by =
+          led k (rowOf p row) (brings-within p ready k (j .step .low) (j .step .high) upper row (row-met j) .ascending)
+          (rw least at (least-nonzero-member 0 (rowOf p row) (λ e. omega (arith, j .step .low))));
+      rest = sym (ap (drop 1) (sym is) ∙ drop-front 1 (b - a) (drop a columns) ∙ rw (less, drop-drop));
+    }
+
+-- a place behind one of the columns behind the first can be told
+pub next-fits :
+    {n : ℕ} {starts columns : List ℕ} {k row at : ℕ} → LedRow n starts columns k row → length columns * 8 < 2 ^ 63
+    → at ≤ length (take (getD starts row 0 - (getD starts (row - 1) 0 + 1)) (drop (getD starts (row - 1) 0 + 1) columns)) → Fits w64 (at + 1)
+next-fits {starts = starts} {columns} {row = row} r room inside =
+    let a : ℕ = getD starts (row - 1) 0 + 1 in
+    let b : ℕ = getD starts row 0 in
+    let end = r .read .inside in
+    let size : length (take (b - a) (drop a columns)) ≡ b - a = length-take-le (b - a) (drop a columns) (rw length-drop (omega arith)) in
+    record { fits = omega arith }
 
 -- the list of the step before
 module _ {p : Lent} {side : Side} {n k : ℕ} {i : SideStores} {end : ℕ} (later : 2 ≤ k) (at : SideAt p side n k i end) where
@@ -246,6 +311,12 @@ module _ {p : Lent} {side : Side} {n k : ℕ} {i : SideStores} {end : ℕ} (late
         let store : take to (i .subs) ≡ (shared (planOf p) side (k - 1)) .store = rw (ends, at .end-is) (at .contained .subs-begin) in
         rw (← store) (sym (slice-part from to (i .subs) (last-inside .0))) ∙ opened-list last-opens lies
 
+-- in U it begins with k
+pub last-begins :
+    {p : Lent} {n k row : ℕ} {i : SideStores} {from to slot next end : ℕ} {last : List ℕ} → JoinsLast p n k row → SideAt p upper n k i end
+    → ListAt (i .starts) (i .slotStarts) (k - 1) from to slot next → last ≡ take (to - from) (drop from (i .subs)) → Led k last
+last-begins j at lies l = rw (l ∙ opened-list (last-opens (j .later) at) lies) (last-led j)
+
 -- what was found of the list of step k-1, which ends its store, and of what a row brings is what the list of step k adds
 pub added-as :
     {p : Lent} {side : Side} {n k row : ℕ} {i : SideStores} {from to slot next end : ℕ} (r : Added) (last more : List ℕ) → JoinsLast p n k row
@@ -256,54 +327,7 @@ added-as {from = from} (Behind t place) last more j at lies ends l m (a, b, behi
     (rw (← m) b, joined-rest j _ t from place (last-at-end (j .later) at lies ends) (a ∙ rw is) (rw (is, m) at behind))
 added-as Elsewhere last more j at lies ends l m found = tt
 
--- ---- what is written or looked for
-
 -- what a row brings to L is itself
 pub own-brings : (p : Lent) (row : ℕ) → row ∷ [] ≡ brings (patternOf p) lower row
 unfolding brings
 own-brings p row = refl
-
--- the row itself, where it is added to L
-pub own-rest :
-    {p : Lent} {k t from : ℕ} (row : ℕ) → (from ≤ length (brings (patternOf p) lower row)) × RestOf p lower k t (drop from (brings (patternOf p) lower row))
-    → (from ≤ 1) × RestOf p lower k t (take (1 - from) (drop from (row ∷ [])))
-unfolding brings
-own-rest {from = from} row (few, found) =
-    let all : take (1 - from) (drop from (row ∷ [])) ≡ drop from (row ∷ []) = take-all (1 - from) (drop from (row ∷ [])) (rw length-drop (omega arith)) in
-    (few, rw all found)
-
--- The columns of a row from a place on, where they are added to U.
-pub record ColumnsRead (n : ℕ) (starts columns : List ℕ) (k t from row : ℕ) : Type 0 where
-  pub low : 1 ≤ row
-  pub high : row < length starts
-  pub rising : getD starts (row - 1) 0 + from ≤ getD starts row 0
-  pub inside : getD starts row 0 ≤ length columns
-  pub few : length columns ≤ 16384
-  pub found : RestOf (lent n starts columns) upper k t (take (getD starts row 0 - (getD starts (row - 1) 0 + from)) (drop (getD starts (row - 1) 0 + from) columns))
-
-pub columns-rest :
-    {n : ℕ} {starts columns : List ℕ} {k t from row : ℕ} → JoinsLast (lent n starts columns) n k row
-    → (from ≤ length (brings (patternOf (lent n starts columns)) upper row))
-    × RestOf (lent n starts columns) upper k t (drop from (brings (patternOf (lent n starts columns)) upper row))
-    → ColumnsRead n starts columns k t from row
-unfolding maxEntries lent
-columns-rest {n} {starts} {columns} {k} {t} {from} {row} j (few, found) =
-    let read = row-of j in
-    let is = upper-brings n starts columns (j .step .ready) k (j .step .low) (j .step .high) true row (row-met j) refl in
-    let a : ℕ = getD starts (row - 1) 0 in
-    let b : ℕ = getD starts row 0 in
-    let rising : a ≤ b = read .rising in
-    let inside : b ≤ length columns = read .inside in
-    let size : length (take (b - a) (drop a columns)) ≡ b - a = length-take-le (b - a) (drop a columns) (rw length-drop (omega arith)) in
-    let short : from ≤ b - a = rw (← is, size) at few in
-    let less : b - a - from ≡ b - (a + from) = omega arith in
-    let part : drop from (take (b - a) (drop a columns)) ≡ take (b - (a + from)) (drop (a + from) columns) =
-    drop-front from (b - a) (drop a columns) ∙ rw (less, drop-drop) in
-    record {
-      low = read .low;
-      high = omega (arith, read .high, read .size);
-      rising = omega arith;
-      inside = inside;
-      few = j .step .ready .entries;
-      found = rw (← part) (rw (← is) at found);
-    }

@@ -1,14 +1,12 @@
 -- Where one row joins the list of the step before.
-use mathlib.Core.List.{List, [], _∷_, _++_}
+use mathlib.Core.List.{List, [], _∷_}
 use mathlib.Core.Path.{_≡_}
 use Prim.Native.Nat.{ℕ, _-_, _≤_, _<_}
 use lib.ListN.{length, drop, getD}
-use Rattle.lists.specs.Sets.{union, Ascending}
 use Rattle.foundation.specs.Pattern.{Lent, patternOf}
 use Rattle.foundation.specs.Plan.{Side, brings}
 use Rattle.store_place.specs.Places.{ListAt}
 use Rattle.plan_gather.specs.Ready.{planOf}
-use Rattle.plan_gather.specs.Gathering.{without}
 use Rattle.plan_gather.specs.Steps.{StepOf}
 use Rattle.plan_share.specs.Adding.{RestOf}
 use Rattle.plan_append.specs.declared.appended.Last.{Last}
@@ -36,14 +34,6 @@ abbrev pub LastAs : Last → ℕ → (starts slots : List ℕ) → ℕ → Type 
 LastAs (Members from to) k starts slots end =
     ListAt starts slots (k - 1) (from .0) (to .0) (getD slots (k - 1 - 1) 0) (getD slots (k - 1) 0) × (to .0 ≡ end)
 LastAs Before k starts slots end = Unit
-
--- how a list lies to the one before it, both without k
-abbrev pub JoinedAs : Added → ℕ → List ℕ → List ℕ → Type 0
-JoinedAs (Behind shared from) k last more =
-    (shared ≡ length (without k last))
-    × (from ≤ length more)
-    × ((low : ℕ) → Ascending low (without k last) → union (without k last) (without k more) ≡ without k last ++ drop from more)
-JoinedAs Elsewhere k last more = Unit
 
 -- what a row adds behind the list of step k-1 is what the list of step k adds to its store
 abbrev pub AddedAs : Added → Lent → Side → ℕ → ℕ → Type 0

@@ -8,7 +8,7 @@ ghost use Rattle.foundation.specs.Plan.{lower, upper};
 ghost use Rattle.answers.specs.Stores.{sideStores};
 ghost use Rattle.store_place.specs.Places.{ListAsks};
 ghost use Rattle.plan_gather.specs.Steps.{SideAt};
-ghost use Rattle.plan_append.specs.Joining.{ChainsJoin, JoinsLast, LastAs, JoinedAs, AddedAs};
+ghost use Rattle.plan_append.specs.Joining.{ChainsJoin, JoinsLast, LastAs, AddedAs};
 use answers::SubscriptPlace;
 use plan_gather::after_first;
 use store_lists::list_at;
@@ -50,18 +50,6 @@ pub fn joins_last(
 pub enum Added {
     Behind(usize, usize),
     Elsewhere,
-}
-
-// A list joins the one of step k-1, both without k.
-fn joined_behind(k: usize, last: &[usize], more: &[usize]) -> Added
-    ensures { λ r. ⌜ JoinedAs r k (now (last .entry)) (now (more .entry)) ⌝ }
-{
-    let have = after_first(k, last);
-    let comes = after_first(k, more);
-    let Behind::From(at) = search_behind(have, comes) else {
-        return Added::Elsewhere;
-    };
-    Added::Behind(have.len(), more.len() - comes.len() + at)
 }
 
 // Where the list of step k-1 lies, if it ends its store.
@@ -116,7 +104,8 @@ pub fn added_own(
     Added::Elsewhere
 }
 
-// What a row first met at k adds behind the list of step k-1 of U: its columns from some place on.
+// What a row first met at k adds behind the list of step k-1 of U: its columns from some place on. Both begin with k, which is left out: k is the least column of the row, and the
+// least member of U of step k-1 behind k-1.
 pub fn added_columns(
     n: usize,
     k: usize,
@@ -135,7 +124,12 @@ pub fn added_columns(
     let Last::Members(first, behind) = last_list(k, list_starts, slots, end) else {
         return Added::Elsewhere;
     };
-    let from = starts[row - 1];
+    let last = list_at(subs, first, behind);
+    let have = &last[1..];
+    let from = starts[row - 1] + 1;
     let to = starts[row];
-    joined_behind(k, list_at(subs, first, behind), &columns[from..to])
+    let Behind::From(at) = search_behind(have, &columns[from..to]) else {
+        return Added::Elsewhere;
+    };
+    Added::Behind(have.len(), at + 1)
 }

@@ -9,8 +9,8 @@ use lib.ListN.{length, getD, replicate, length-replicate}
 use borrow.Author.Tests.{eqb-true, eqb-false, ne-eqb}
 use Rattle.lists.proofs.Members.{by-test}
 use Rattle.foundation.specs.Answer.{refused, granted, refuseIf, andThen}
-use Rattle.foundation.specs.Pattern.{Lent, lent, patternFault, judged}
-use Rattle.foundation.specs.Plan.{Planning, Side, lower, upper}
+use Rattle.foundation.specs.Pattern.{Lent, lent, patternOf, patternFault, judged}
+use Rattle.foundation.specs.Plan.{Planning, Side, lower, upper, after}
 use Rattle.foundation.specs.Subscripts.{shared, roomFault}
 use Rattle.foundation.specs.Slots.{slotsOf}
 use Rattle.foundation.specs.PlanCall.{Counts, PlanStores, WorkSizes, subscripts, countsOf, sizesFit, planned, planAnswer}
@@ -28,13 +28,13 @@ use Rattle.store_clear.specs.Clearing.{Zeros}
 use Rattle.store_lists.specs.Clearing.{SideZeros}
 use Rattle.plan_gather.specs.Ready.{Ready, planOf}
 use Rattle.plan_gather.specs.Contains.{used}
-use Rattle.plan_gather.specs.Steps.{readsSoFar, ChainsAt, EndsAre, chainStores}
+use Rattle.plan_gather.specs.Steps.{countedReads, unmetAt, ChainsAt, EndsAre, chainStores}
 use Rattle.plan_pattern.specs.Sizes.{lengthsFit}
-use Rattle.plan_gather.proofs.Progress.{reads-all, chains-begin}
+use Rattle.plan_gather.proofs.Progress.{counted-all, chains-begin}
 use Rattle.plan_gather.proofs.Passing.{ready, fault-ready}
 use Rattle.plan_pattern.proofs.Sizing.{Lengths, fit-lengths, unfit, sizes-fit}
-use Rattle.plan_sides.specs.Filled.{Filled, BothFilled}
-use Rattle.plan_sides.proofs.Filled.{filled-none, filled-contains}
+use Rattle.plan_lay.specs.Filled.{Filled, BothFilled}
+use Rattle.plan_lay.proofs.Filled.{filled-none, filled-contains}
 use Rattle.plan_loop.specs.Progress.{FitTo, EndedAs}
 use Rattle.plan_call.specs.Outcome.{PlannedAs, endedAnswer}
 use Rattle.plan_loop.specs.declared.steps.Ended.{Ended}
@@ -105,7 +105,7 @@ module _ (p : Lent) (n roomL roomU : ℕ) (lSubs lStarts lSlots uSubs uStarts uS
       (ap (λ (m : ℕ). length ((shared s upper m) .store)) same ∙ sym (ends .upper-end))
       (ap (slotsOf s lower) same ∙ sym a)
       (ap (slotsOf s upper) same ∙ sym b)
-      (sym (ends .read ∙ ap (readsSoFar p) (sym same) ∙ reads-all p ready))
+      (sym (ends .read ∙ ap (λ (m : ℕ). countedReads p (after (patternOf p) m) m) (sym same) ∙ counted-all p ready))
 
   -- The answer by the room is what the steps ended with.
   pub ended-answer :
@@ -206,7 +206,7 @@ module _ (most n : ℕ) (starts columns : List ℕ) (fault : ℕ) (found : fault
       pub steps-ask :
           {rowHeads′ rowLinks′ setHeads′ setLinks′ lSubs′ lStarts′ lSlots′ uSubs′ uStarts′ uSlots′ : List ℕ}
           → SideZeros lSubs lStarts lSlots lSubs′ lStarts′ lSlots′ → SideZeros uSubs uStarts uSlots uSubs′ uStarts′ uSlots′
-          → Chained rowHeads′ rowLinks′ n (planOf (lent n starts columns) .firstMet) → Zeros setHeads setHeads′ × Zeros setLinks setLinks′
+          → Chained rowHeads′ rowLinks′ n (unmetAt (lent n starts columns) (after (patternOf (lent n starts columns)) 0)) → Zeros setHeads setHeads′ × Zeros setLinks setLinks′
           → (Ready (lent n starts columns) × ChainsAt (lent n starts columns) n 0 (chainStores rowHeads′ rowLinks′ setHeads′ setLinks′))
           × (BothFilled (lent n starts columns) n 0 (length lSubs′) (length uSubs′) (planStores lSubs′ lStarts′ lSlots′ uSubs′ uStarts′ uSlots′)
           × ((length list ≡ n) × (length spare ≡ n)))

@@ -6,8 +6,7 @@ use Rattle.foundation.specs.PlanCall.{Counts, PlanStores}
 use Rattle.answers.specs.Answers.{counted}
 use Rattle.answers.specs.declared.PlanAnswer.{PlanAnswer}
 use Rattle.answers.specs.declared.PlanAnswer.the-variants.{Planned, Refused}
-use Rattle.answers.specs.Stores.{planStores}
-use Rattle.plan_sides.specs.Filled.{BothFilled}
+use Rattle.plan_lay.specs.Filled.{BothFilled}
 use Rattle.plan_loop.specs.declared.steps.Ended.{Ended}
 use Rattle.plan_loop.specs.declared.steps.Ended.the-variants.{All, LowerAt, UpperAt}
 

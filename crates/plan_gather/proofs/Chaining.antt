@@ -1,10 +1,11 @@
 -- The rows by their least column, and what walking the chains of a plan takes for granted.
 use mathlib.Core.Bool.{Bool, true, not}
 use mathlib.Core.List.{List, [], _∷_}
-use mathlib.Core.Path.{_≡_, sym, ap, _∙_}
+use mathlib.Core.Path.{_≡_, refl, sym, ap, _∙_}
 use Prim.Native.Nat.{ℕ, suc, _+_, _-_, _*_, _≤_, _<_}
 use native.Mathlib.Nat.{mul-le-mul-left}
 use native.Mathlib.Numerals.{add-one}
+use native.Mathlib.Decide.{decLe}
 use native.Mathlib.Omega.{arith}
 use lib.Dec.{eqb}
 use lib.ListN.{length, set, getD, replicate}
@@ -14,25 +15,28 @@ use Rattle.lists.specs.Functions.{update, keep, total, span}
 use Rattle.lists.specs.Sets.{member, Ascending, run, upto, between, first, leastAbove, Falling}
 use Rattle.lists.proofs.Members.{by-test, not-member-nil, in-upto, upto-low, upto-high, kept-in, kept-passes, in-keep, in-between, between-low, between-high}
 use Rattle.lists.proofs.Order.{member-first, same-members-by, ascending-keep, ascending-between}
-use Rattle.lists.proofs.Kept.{leave-first}
+use Rattle.lists.proofs.Kept.{keep-all, keep-nothing, leave-first}
 use Rattle.lists.proofs.Least.{least-member, least-above, least-nonzero-member}
 use Rattle.lists.proofs.Once.{falling-once, ascending-once}
-use Rattle.lists.proofs.Places.{index-below, length-upto}
+use Rattle.lists.proofs.Places.{index-below, length-upto, update-same, update-untouched}
+use Rattle.lists.proofs.Small.{less-one}
 use Rattle.lists.proofs.Counting.{total-cong, total-le, total-constant, total-within}
 use Rattle.foundation.specs.Pattern.{Lent, lent, rowOf, patternOf, startsFit, maxEntries}
-use Rattle.foundation.specs.Plan.{Planning, Side, lower, upper, list, plan}
+use Rattle.foundation.specs.Plan.{Planning, Side, lower, upper, list, after, plan}
 use Rattle.foundation.specs.Subscripts.{kept}
 use Rattle.foundation.specs.Slots.{slotsOf}
 use Rattle.foundation.specs.Facts.{sizesOf}
 use Rattle.foundation.proofs.PlanFacts.{plan-facts}
 use Rattle.foundation.proofs.Steps.{S-falls, joined}
+use Rattle.foundation.proofs.Gathered.{met-least, least-met}
 use Rattle.foundation.proofs.Listed.{two-members}
 use Rattle.foundation.proofs.Starts.{slots-next}
 use Rattle.foundation.proofs.Passing.{rows-before}
 use Rattle.foundation.proofs.ReadsBound.{first-ascends, sizes-within}
 use Rattle.store_lists.specs.Chains.{Linked, Chained, bothSpans, RowsWalk, StepsWalk}
-use Rattle.store_lists.proofs.Chaining.{chained-none, chained-cong, chained-push}
+use Rattle.store_lists.proofs.Chaining.{chained-none, chained-cong, chained-push, chained-drop}
 use Rattle.plan_gather.specs.Ready.{Ready, planOf}
+use Rattle.plan_gather.specs.Steps.{rowsAt, unmetAt}
 use Rattle.plan_pattern.proofs.Judging.{Fitted, fitted, row-order, row-within}
 
 -- ---- the rows of a pattern that was judged
@@ -43,7 +47,7 @@ unfolding leastAbove keep first
 first-least x xs h = rw (lt-ltb 0 x h)
 
 -- the numbers a to b begin with a
-between-cons : (a b : ℕ) → a ≤ b → between a b ≡ a ∷ between (suc a) b
+pub between-cons : (a b : ℕ) → a ≤ b → between a b ≡ a ∷ between (suc a) b
 unfolding between run
 between-cons a b h = let e : suc b - a ≡ suc (suc b - suc a) = omega arith in rw e
 
@@ -205,9 +209,58 @@ module _ (p : Lent) (ready : Ready p) where
       (λ j l u m. let b = between-low i (suc i) (p .n) (kept-in i (t j) (between (suc i) (p .n)) m) in omega arith)
       h))
 
+  -- ---- the rows that are not met
+
+  -- the rows whose least column is k are those first met at step k
+  rows-at : (k : ℕ) → 1 ≤ k → k ≤ p .n → rowsAt p k ≡ planOf p .firstMet k
+  unfolding rowsAt rowsFrom upto between
+  rows-at k low high = sym (rw (less-one (p .n)) at (sym (all-rows k low high)))
+
+  -- before its step, all of them are not met
+  pub unmet-rows : (m k : ℕ) → m < k → k ≤ p .n → unmetAt p (after (patternOf p) m) k ≡ planOf p .firstMet k
+  unfolding unmetAt patternOf
+  unmet-rows m k before high =
+      let low : 1 ≤ k = omega arith in
+      rw (rows-at k low high)
+      (keep-all (λ i. not (after (patternOf p) m .met i)) (planOf p .firstMet k)
+      (λ i e.
+      let r = first-in k i low high e in
+      by-test (after (patternOf p) m .met i)
+      (λ t. let d = met-least (patternOf p) (ready .plannable) m i t in absurd (omega (arith, d .3, r .2)))
+      (λ t. rw t refl)))
+
+  -- after its step, none of them is
+  pub met-rows : (m k : ℕ) → 1 ≤ k → k ≤ m → k ≤ p .n → unmetAt p (after (patternOf p) m) k ≡ []
+  unfolding unmetAt patternOf
+  met-rows m k low done high =
+      rw (rows-at k low high)
+      (keep-nothing (λ i. not (after (patternOf p) m .met i)) (planOf p .firstMet k)
+      (λ i e.
+      let r = first-in k i low high e in
+      rw (least-met (patternOf p) (ready .plannable) m i (r .0) (r .1) (omega (arith, r .2)) (omega (arith, r .2))) refl))
+
   -- every row is chained
-  pub rows-end : (heads links : List ℕ) (i : ℕ) → i ≡ 0 → Chained heads links (p .n) (rowsFrom p i) → Chained heads links (p .n) (planOf p .firstMet)
-  rows-end heads links i e h = chained-cong heads links (p .n) (rowsFrom p 0) (planOf p .firstMet) all-rows (rw e at h)
+  pub rows-end : (heads links : List ℕ) (i : ℕ) → i ≡ 0 → Chained heads links (p .n) (rowsFrom p i) → Chained heads links (p .n) (unmetAt p (after (patternOf p) 0))
+  rows-end heads links i e h =
+      chained-cong heads links (p .n) (rowsFrom p 0) (unmetAt p (after (patternOf p) 0))
+      (λ k low high. all-rows k low high ∙ sym (unmet-rows 0 k (omega arith) high))
+      (rw e at h)
+
+  -- in the report's 2.2 of step k its rows are marked: their chain is emptied
+  pub rows-marked : (heads links : List ℕ) (k : ℕ) → 1 ≤ k → k ≤ p .n → Chained heads links (p .n) (unmetAt p (after (patternOf p) (k - 1)))
+      → Chained (set heads k 0) links (p .n) (unmetAt p (after (patternOf p) k))
+  rows-marked heads links k low high h =
+      chained-cong (set heads k 0) links (p .n) (update (unmetAt p (after (patternOf p) (k - 1))) k []) (unmetAt p (after (patternOf p) k))
+      (λ j l u. by-test (eqb j k)
+      (λ e. let q : j ≡ k = eqb-true j k e in rw (q, update-same) (sym (met-rows k k low (omega arith) high)))
+      (λ e.
+      let d : j ≡ k → ⊥ = eqb-false j k e in
+      update-untouched (unmetAt p (after (patternOf p) (k - 1))) k [] j e
+      ∙ elim (decLe j k) [
+        | yes b ↦ met-rows (k - 1) j l (omega arith) u ∙ sym (met-rows k j l b u)
+        | no b ↦ unmet-rows (k - 1) j (omega arith) u ∙ sym (unmet-rows k j (omega arith) u)
+      ]))
+      (chained-drop heads links (p .n) (unmetAt p (after (patternOf p) (k - 1))) k low high h)
 
   -- ---- what walking the chains of a plan takes for granted
 

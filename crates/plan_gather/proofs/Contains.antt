@@ -25,7 +25,6 @@ use Rattle.store_place.specs.Places.{ListAsks, ListAt}
 use Rattle.plan_gather.specs.Ready.{Ready, planOf}
 use Rattle.plan_gather.specs.Gathering.{Within}
 use Rattle.plan_gather.specs.Contains.{used, Contains}
-use Rattle.plan_gather.specs.Steps.{BothSlots}
 
 -- ---- the plan of a pattern that was judged
 
@@ -125,12 +124,6 @@ module _ {s : Planning} {side : Side} {l : ℕ} {i : SideStores} (o : Opened s s
     -- and it is the step's
     pub opened-list : take (to - from) (drop from (i .subs)) ≡ kept s side l
     opened-list = rw (at .from-is, at .to-is, add-sub-cancel-left (getD (i .starts) (l - 1) 0) (span (i .slotStarts) l)) (o .is)
-
--- the slots of both sides are contained where the stores of both sides begin with the steps
-pub both-slots :
-    {p : Lent} {n k : ℕ} {lowers uppers : SideStores} → Contains (planOf p) lower n k lowers → Contains (planOf p) upper n k uppers
-    → BothSlots p n k (lowers .slotStarts) (uppers .slotStarts)
-both-slots l u = record { lowers-size = l .slots-size; uppers-size = u .slots-size; lowers-at = l .slots-at; uppers-at = u .slots-at }
 
 -- ---- how many subscripts are used
 

@@ -1,23 +1,20 @@
--- How a list grows by unions: what a list without its own step is, what the two stores have, and how far a chain has been joined.
-use mathlib.Core.Bool.{Bool, true, false, not}
-use mathlib.Core.List.{List, [], _∷_, _++_}
-use mathlib.Core.Logic.{_⊎_, inl, inr, ⊎-elim}
-use mathlib.Core.Path.{_≡_, refl, sym, ap, _∙_}
-use Prim.Native.Nat.{ℕ, suc, _+_, _-_, _≤_, _<_}
+-- Lists without the step at hand, lists within bounds, and sets that are joined.
+use mathlib.Core.Bool.{true, not}
+use mathlib.Core.List.{List, [], _∷_}
+use mathlib.Core.Logic.{_⊎_, ⊎-elim}
+use mathlib.Core.Path.{_≡_, refl, ap, _∙_}
+use Prim.Native.Nat.{ℕ, suc, _-_, _≤_, _<_}
 use native.Mathlib.Nat.{le-refl}
 use native.Mathlib.Omega.{arith}
 use lib.Dec.{eqb}
-use lib.ListN.{length, take, drop, getD, length-drop, length-append}
-use lib.Seq.{take-all, take-at}
+use lib.ListN.{length, take, drop, getD, length-drop}
+use lib.Seq.{take-all}
 use borrow.Author.Tests.{eqb-true, eqb-false, eq-eqb, ne-eqb}
 use Rattle.lists.specs.Functions.{keep}
 use Rattle.lists.specs.Sets.{member, Ascending, union, joinAll, from}
 use Rattle.lists.proofs.Members.{by-test, member-head, member-tail, not-member-nil, union-cases, joinAll-cong}
 use Rattle.lists.proofs.Order.{ascending-weaken, ascending-union, ascending-length}
 use Rattle.lists.proofs.Kept.{keep-joinAll, leave-absent}
-use Rattle.foundation.specs.Plan.{list}
-use Rattle.store_lists.specs.Chains.{Linked}
-use Rattle.store_lists.proofs.Chaining.{linked-end, linked-next}
 use Rattle.plan_gather.specs.Gathering.{without, omit, Within, GrownIn}
 
 -- ---- a list without its own step
@@ -28,7 +25,8 @@ pub record Cut (k from : ℕ) (more : List ℕ) : Type 0 where
   pub small : from ≤ 1
   pub is : take (length more - from) (drop from more) ≡ without k more
 
-part-is : (more : List ℕ) (at : ℕ) → take (length more - at) (drop at more) ≡ drop at more
+-- the part of a list from a place on, as the code lends it
+pub part-is : (more : List ℕ) (at : ℕ) → take (length more - at) (drop at more) ≡ drop at more
 part-is more at = take-all (length more - at) (drop at more) (simp length-drop (le-refl (length more - at)))
 
 cut-leads : (k : ℕ) (more : List ℕ) → 0 < length more → getD more 0 0 ≡ k → drop 1 more ≡ without k more
@@ -85,168 +83,13 @@ joined-within k n xs more a b = within-union (suc k) n xs (without k more) a (wi
 pub within-to : (low : ℕ) {m n : ℕ} (xs : List ℕ) → m ≡ n → Within low m xs → Within low n xs
 within-to low xs e w = rw e at w
 
-within-length : (k n : ℕ) (xs : List ℕ) → Within (suc k) n xs → length xs ≤ n
+-- such a list has no more than n members
+pub within-length : (k n : ℕ) (xs : List ℕ) → Within (suc k) n xs → length xs ≤ n
 within-length k n xs w =
     omega (
       arith,
       ascending-length 1 (suc n) xs (omega arith) (ascending-weaken 1 (suc k) xs (omega arith) (w .ascending)) (λ x m. omega (arith, w .bounded x m)),
     )
-
--- ---- the two stores
-
--- the other store named first
-pub turned :
-    (flipped : Bool) {n count : ℕ} {list spare xs : List ℕ} → GrownIn n flipped count list spare xs → GrownIn n (not flipped) count spare list xs
-turned false h = record { list-size = h .spare-size; spare-size = h .list-size; size = h .size; fits = h .fits; is = h .is }
-turned true h = record { list-size = h .spare-size; spare-size = h .list-size; size = h .size; fits = h .fits; is = h .is }
-
--- the store where a list has grown is known
-pub grown-where :
-    {flipped known : Bool} {n count : ℕ} {list spare xs : List ℕ} → flipped ≡ known → GrownIn n flipped count list spare xs
-    → GrownIn n known count list spare xs
-grown-where e h = rw e at h
-
--- the places up to `count`, as the code lends them
-abbrev pub front : ℕ → List ℕ → List ℕ
-front count have = take (count - 0) have
-
--- and those from `at` on
-abbrev pub added : ℕ → List ℕ → List ℕ
-added at comes = take (length comes - at) (drop at comes)
-
-module _ {n k count : ℕ} {have spare xs more comes : List ℕ} (h : GrownIn n false count have spare xs) (w : Within (suc k) n xs)
-    (m : Within k n more) (cut : comes ≡ without k more) where
-  front-is : front count have ≡ xs
-  front-is = let c : count - 0 ≡ count = omega arith in rw c (h .is)
-
-  union-is : union (front count have) comes ≡ union xs (without k more)
-  union-is = rw (front-is, cut)
-
-  union-fits : length (union (front count have) comes) ≤ n
-  union-fits = rw union-is (within-length k n (union xs (without k more)) (joined-within k n xs more w m))
-
-  -- a merge has room in the other store
-  pub merge-room : length (union (front count have) comes) ≤ length spare
-  merge-room = let l = h .spare-size in omega (arith, union-fits)
-
-  -- and then the other store has the union
-  pub merge-grown :
-      {spare′ : List ℕ} {r : ℕ} → length spare′ ≡ length spare
-      → (r ≡ length (union (front count have) comes)) × (take r spare′ ≡ union (front count have) comes)
-      → (ys : List ℕ) → GrownIn n false count have spare ys → GrownIn n true r have spare′ (union ys (without k more))
-  merge-grown l (q, t) ys g =
-      let same : ys ≡ xs = sym (g .is) ∙ h .is in
-      let f = union-fits in
-      rw same
-      (record {
-        list-size = h .list-size;
-        spare-size = l ∙ h .spare-size;
-        size = q ∙ ap length union-is;
-        fits = omega arith;
-        is = t ∙ union-is;
-      })
-
-  -- where the list only adds behind the end, from `at` on
-  module _ (at : ℕ)
-      (behind : (at ≤ length comes) × ((low : ℕ) → Ascending low (front count have) → union (front count have) comes ≡ front count have ++ drop at comes)) where
-    rest-is : union xs (without k more) ≡ xs ++ drop at comes
-    rest-is = sym union-is ∙ behind .1 (suc k) (rw front-is (w .ascending)) ∙ rw front-is
-
-    -- what is added has room in the same store
-    pub behind-room : count + length (added at comes) ≤ length have
-    behind-room =
-        let l = h .list-size in
-        let c = h .size in
-        let f = union-fits in
-        let e = ap length (union-is ∙ rest-is) ∙ length-append xs (drop at comes) in
-        rw (part-is comes at) (omega arith)
-
-    -- and then that store has the union
-    pub behind-grown :
-        {have′ : List ℕ} {r : ℕ} → length have′ ≡ length have
-        → (r ≡ count + length (added at comes)) × (have′ ≡ take count have ++ added at comes ++ drop (count + length (added at comes)) have)
-        → (ys : List ℕ) → GrownIn n false count have spare ys → GrownIn n false r have′ spare (union ys (without k more))
-    behind-grown {have′} {r} l (q, t) ys g =
-        let same : ys ≡ xs = sym (g .is) ∙ h .is in
-        let room = behind-room in
-        let size = h .size in
-        let list = h .list-size in
-        let whole : union xs (without k more) ≡ xs ++ added at comes = rest-is ∙ rw (part-is comes at) in
-        let long : r ≡ length (xs ++ added at comes) = q ∙ rw (size, length-append) in
-        rw (same, whole)
-        (record {
-          list-size = l ∙ h .list-size;
-          spare-size = h .spare-size;
-          size = long;
-          fits = omega arith;
-          is = rw (t, h .is) (take-at (xs ++ added at comes) _ r (sym long));
-        })
-
--- no list is grown yet
-pub grown-none : (n : ℕ) (list spare : List ℕ) → length list ≡ n → length spare ≡ n → GrownIn n false 0 list spare []
-grown-none n list spare l m = record { list-size = l; spare-size = m; size = refl; fits = omega arith; is = refl }
-
--- ---- how far a chain has been joined
-
--- The list grown and what a chain still brings, from `at` on, make the whole. The rest of the chain is in order and among `all`.
-pub record Gathers (n k : ℕ) (flipped : Bool) (count : ℕ) (list spare links : List ℕ) (at : ℕ) (Order : List ℕ → Type 0) (part : ℕ → List ℕ)
-    (all whole : List ℕ) : Type 0 where
-  pub so-far : List ℕ
-  pub rest : List ℕ
-  pub grown : GrownIn n flipped count list spare so-far
-  pub within : Within (suc k) n so-far
-  pub linked : Linked links at rest
-  pub ordered : Order rest
-  pub among : (i : ℕ) → member i rest ≡ true → member i all ≡ true
-  pub comes : joinAll part so-far rest ≡ whole
-
-module _ {n k : ℕ} {flipped : Bool} {count : ℕ} {list spare links : List ℕ} {at : ℕ} {Order : List ℕ → Type 0} {part : ℕ → List ℕ}
-    {all whole : List ℕ} (g : Gathers n k flipped count list spare links at Order part all whole) where
-  -- the chain is passed
-  pub gathers-end : at ≡ 0 → GrownIn n flipped count list spare whole
-  unfolding joinAll
-  gathers-end e =
-      let none : g .rest ≡ [] = linked-end links at (g .rest) e (g .linked) in
-      rw (rw none at (g .comes)) at (g .grown)
-
-  module _ (some : at ≡ 0 → ⊥) where
-    next : (later : List ℕ) × (g .rest ≡ at ∷ later) × (at < length links) × Linked links (getD links at 0) later
-    next = linked-next links at (g .rest) some (g .linked)
-
-    -- the chain's next member
-    pub gathers-here : (member at all ≡ true) × (at < length links)
-    gathers-here = (g .among at (rw (next .1) (member-head at (next .0))), next .2)
-
-    -- the member after it is in the rest, or there is none
-    pub gathers-order : (later : List ℕ) × Order (at ∷ later) × ((getD links at 0 ≡ 0) ⊎ (member (getD links at 0) later ≡ true))
-    gathers-order = (next .0, rw (next .1) at (g .ordered), leads (next .0) (next .3))
-      where
-        leads : (later : List ℕ) → Linked links (getD links at 0) later → (getD links at 0 ≡ 0) ⊎ (member (getD links at 0) later ≡ true)
-        leads later h =
-            by-test (eqb (getD links at 0) 0)
-            (λ e. inl (eqb-true (getD links at 0) 0 e))
-            (λ e.
-            let more = linked-next links (getD links at 0) later (eqb-false (getD links at 0) 0 e) h in
-            inr (rw (more .1) (member-head (getD links at 0) (more .0))))
-
-    -- the next member's list is joined
-    pub gathers-turn :
-        {flipped′ : Bool} {count′ : ℕ} {list′ spare′ : List ℕ} (more : List ℕ) → Within k n more → without k more ≡ part at
-        → ((later : List ℕ) → Order (at ∷ later) → Order later) → GrownIn n flipped′ count′ list′ spare′ (union (g .so-far) (without k more))
-        → Gathers n k flipped′ count′ list′ spare′ links (getD links at 0) Order part all whole
-    unfolding joinAll
-    gathers-turn more w e on h =
-        let (later, q, _, l) = next in
-        record {
-          so-far = union (g .so-far) (without k more);
-          rest = later;
-          grown = h;
-          within = joined-within k n (g .so-far) more (g .within) w;
-          linked = l;
-          ordered = on later (rw q at (g .ordered));
-          among = λ i m. g .among i (rw q (member-tail i at later m));
-          comes = rw e (rw q at (g .comes));
-        }
 
 -- ---- sets that are joined
 
@@ -269,3 +112,7 @@ omit-joinAll k f g xs is up each agree =
 pub within-none : (low high : ℕ) → Within low high []
 unfolding Ascending
 within-none low high = record { ascending = tt; bounded = λ x m. absurd (not-member-nil x m) }
+
+-- no list is grown yet
+pub grown-none : (n : ℕ) (growing : List ℕ) → length growing ≡ n → GrownIn n 0 growing []
+grown-none n growing size = record { store-size = size; size = refl; fits = omega arith; is = refl }

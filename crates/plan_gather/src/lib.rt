@@ -1,12 +1,8 @@
-// Gathering what a step of a plan needs: the rows first met, the sets S, the kept lists, the reads.
-mod gather;
-mod reads;
+// What the steps of a plan go by: the rows by their least column, the sets S, the lists without the step at hand.
+mod first;
 mod rows;
 mod sets;
 
-pub use gather::after_first;
-pub use gather::kept_list;
-pub use reads::step_total;
+pub use first::after_first;
 pub use rows::chain_rows;
-pub use sets::hand_on;
 pub use sets::sole_step;

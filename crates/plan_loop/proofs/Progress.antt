@@ -12,8 +12,8 @@ use Rattle.plan_gather.specs.Ready.{Ready, planOf}
 use Rattle.plan_gather.specs.Contains.{used}
 use Rattle.plan_gather.specs.Steps.{StepOf, ChainsAt, EndsAre, ChainStores}
 use Rattle.plan_gather.proofs.Progress.{ends-none}
-use Rattle.plan_sides.specs.Filled.{BothFilled}
-use Rattle.plan_sides.proofs.Filled.{filled-room}
+use Rattle.plan_lay.specs.Filled.{BothFilled}
+use Rattle.plan_lay.proofs.Filled.{filled-room}
 use Rattle.plan_loop.specs.Progress.{FitTo}
 
 module _ (p : Lent) (n k roomL roomU : ℕ) (stores : PlanStores) (high : k ≤ n)
@@ -74,7 +74,7 @@ steps-start same read (ready, chains) both sizes = record {
   high = omega arith;
   chains = chains;
   both = both;
-  ends = ends-none _ 0 0 _ refl refl read;
+  ends = ends-none _ ready 0 0 _ refl refl read;
   list-size = sizes .0;
   spare-size = sizes .1;
 }

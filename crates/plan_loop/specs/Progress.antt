@@ -6,7 +6,7 @@ use Rattle.foundation.specs.PlanCall.{PlanStores}
 use Rattle.plan_gather.specs.Ready.{planOf}
 use Rattle.plan_gather.specs.Contains.{used}
 use Rattle.plan_gather.specs.Steps.{EndsAre}
-use Rattle.plan_sides.specs.Filled.{BothFilled}
+use Rattle.plan_lay.specs.Filled.{BothFilled}
 use Rattle.plan_loop.specs.declared.steps.Ended.{Ended}
 use Rattle.plan_loop.specs.declared.steps.Ended.the-variants.{All, LowerAt, UpperAt}
 

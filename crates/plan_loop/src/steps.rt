@@ -5,11 +5,11 @@ ghost use Rattle.foundation.specs.Pattern.{lent};
 ghost use Rattle.answers.specs.Stores.{planStores};
 ghost use Rattle.plan_gather.specs.Ready.{Ready};
 ghost use Rattle.plan_gather.specs.Steps.{ChainsAt, chainStores};
-ghost use Rattle.plan_sides.specs.Filled.{BothFilled};
+ghost use Rattle.plan_lay.specs.Filled.{BothFilled};
 ghost use Rattle.plan_loop.specs.Progress.{EndedAs};
 use answers::SubscriptPlace;
-use plan_sides::Turned;
-use plan_sides::plan_step;
+use plan_step::Turned;
+use plan_step::plan_step;
 
 // How planning ends: where both stores end and the reads, or the step at which an L or a U subscript does not fit.
 pub enum Ended {
@@ -23,7 +23,7 @@ pub fn plan_steps(
     n: usize,
     starts: &[usize],
     columns: &[usize],
-    row_heads: &[usize],
+    row_heads: &mut [usize],
     row_links: &[usize],
     set_heads: &mut [usize],
     set_links: &mut [usize],

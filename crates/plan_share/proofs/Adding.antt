@@ -27,7 +27,8 @@ use Rattle.foundation.proofs.Enough.{added-few}
 use Rattle.plan_gather.specs.Contains.{used}
 use Rattle.plan_gather.specs.Ready.{Ready, planOf}
 use Rattle.plan_gather.specs.Gathering.{GrownIn}
-use Rattle.plan_gather.specs.Steps.{SideAt}
+use Rattle.plan_gather.specs.Steps.{SideAt, keptSteps}
+use Rattle.plan_gather.proofs.Gathering.{steps-kept}
 use Rattle.plan_gather.proofs.Contains.{Opened, contains-opens, facts, kept-within, kept-length, used-none, used-next}
 use Rattle.plan_share.specs.Sharing.{EndAsks}
 use Rattle.plan_share.specs.Adding.{NewList, RestOf, Writable}
@@ -191,7 +192,7 @@ module _ {p : Lent} {side : Side} {n k : ℕ} {i : SideStores} {end : ℕ} (at :
     some = omega (arith, not-none)
 
     -- l is earlier, and its list is k and then k's
-    sole-facts : (l < k) × (kept (planOf p) side l ≡ k ∷ kept (planOf p) side k)
+    pub sole-facts : (l < k) × (kept (planOf p) side l ≡ k ∷ kept (planOf p) side k)
     unfolding patternOf
     sole-facts =
         let same = at .step .same-n in
@@ -199,7 +200,7 @@ module _ {p : Lent} {side : Side} {n k : ℕ} {i : SideStores} {end : ℕ} (at :
         rw (← sole-is) at (facts p (at .step .ready) .sole side k (at .step .low) (omega arith) (rw (← sole-is) some))
 
     -- l has one slot more than k
-    sole-span : span (i .slotStarts) l ≡ length (kept (planOf p) side k) + 1
+    pub sole-span : span (i .slotStarts) l ≡ length (kept (planOf p) side k) + 1
     sole-span = let (before, is) = sole-facts in side-opens l some before .count ∙ ap length is ∙ sym (add-one _)
 
     -- k has the slots that are left
@@ -270,11 +271,10 @@ module _ {p : Lent} {side : Side} {n k : ℕ} {i : SideStores} {end : ℕ} (at :
 
 -- ---- a list that has grown
 
--- the list that was gathered is the new one, in whichever of the two stores it has grown
-module _ {p : Lent} {side : Side} {n k : ℕ} {i : SideStores} {end : ℕ} (at : SideAt p side n k i end) (not-sole : soleStep (planOf p) k ≡ 0)
-    {flipped : Bool} {count : ℕ} {list spare : List ℕ} (grown : GrownIn n flipped count list spare (kept (planOf p) side k)) where
-  pub new-in-spare : flipped ≡ true → NewList p side n k (take (count - 0) spare) i end
-  new-in-spare e = record { at = at; new-is = rw sub-zero (rw e at (grown .is)); not-sole = not-sole }
-
-  pub new-in-list : flipped ≡ false → NewList p side n k (take (count - 0) list) i end
-  new-in-list e = record { at = at; new-is = rw sub-zero (rw e at (grown .is)); not-sole = not-sole }
+-- a list that has grown by the report's 2.2 and 2.4 is the new one
+pub new-grown :
+    {p : Lent} {side : Side} {n k : ℕ} {i : SideStores} {end : ℕ} → SideAt p side n k i end → soleStep (planOf p) k ≡ 0 → {count : ℕ} {growing : List ℕ}
+    → GrownIn n count growing (keptSteps p side k) → NewList p side n k (take (count - 0) growing) i end
+new-grown {p} {side} {n} {k} at not-sole grown =
+    let high : k ≤ p .n = rw (at .step .same-n) (at .step .high) in
+    record { at = at; new-is = rw sub-zero (grown .is) ∙ steps-kept p (at .step .ready) k (at .step .low) high side; not-sole = not-sole }

@@ -20,8 +20,8 @@ use Rattle.store_clear.specs.Clearing.{Zeros}
 use Rattle.store_lists.specs.Clearing.{SideZeros}
 use Rattle.plan_gather.specs.Ready.{planOf}
 use Rattle.plan_gather.proofs.Passing.{lent-n}
-use Rattle.plan_sides.specs.Filled.{Filled, BothFilled}
-use Rattle.plan_sides.proofs.Filled.{filled-contains}
+use Rattle.plan_lay.specs.Filled.{Filled, BothFilled}
+use Rattle.plan_lay.proofs.Filled.{filled-contains}
 use Rattle.plan_call.specs.Outcome.{PlannedAs}
 use Rattle.plan_call.proofs.Answering.{planned-same}
 use Rattle.planning.specs.Calls.{PlanKept}

@@ -95,6 +95,19 @@ chained-push heads links n lists k x low high some few out h =
           (linked-frame links (getD heads j 0) x v (lists j) (out j l u) (h .chain-at j l u)));
     }
 
+-- a chain is emptied
+pub chained-drop : (heads links : List ℕ) (n : ℕ) (lists : ℕ → List ℕ) (k : ℕ) → 1 ≤ k → k ≤ n → Chained heads links n lists → Chained (set heads k 0) links n (update lists k [])
+unfolding Linked
+chained-drop heads links n lists k low high h =
+    let hs = h .heads-size in
+    record {
+      heads-size = simp length-set hs;
+      links-size = h .links-size;
+      chain-at = λ j l u. by-test (eqb j k)
+          (λ e. let q : j ≡ k = eqb-true j k e in rw (q, update-same lists k []) (getD-set-same heads k 0 0 (omega arith)))
+          (λ e. rw (update-untouched lists k [] j e, getD-set-other heads k j 0 0 (eqb-false j k e)) (h .chain-at j l u));
+    }
+
 -- ---- walking a chain
 
 -- Where a chain is walked that begins at `head`, `rest` is still to come, and the sizes of the members passed sum to `done`.

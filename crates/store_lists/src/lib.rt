@@ -12,4 +12,4 @@ pub use clear::clear_side;
 pub use clear::clear_work;
 pub use places::list_at;
 pub use unions::append;
-pub use unions::merge;
+pub use unions::merge_in;

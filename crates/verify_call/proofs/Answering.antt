@@ -2,14 +2,14 @@
 use mathlib.Core.Bool.{Bool, true, false}
 use mathlib.Core.List.{List}
 use mathlib.Core.Path.{_≡_, refl, sym, ap, _∙_}
-use Prim.Native.Nat.{ℕ, suc, _-_, _≤_, _<_}
+use Prim.Native.Nat.{ℕ, suc, _-_, _<_}
 use native.Mathlib.Omega.{arith}
 use lib.ListN.{length, getD}
 use borrow.Author.Tests.{ne-eqb}
 use Rattle.lists.proofs.Members.{and-left, and-right, and-both, fails}
 use Rattle.foundation.specs.Answer.{refused, granted, refuseIf, andThen}
-use Rattle.foundation.specs.Pattern.{Lent, lent, patternFault, judged}
-use Rattle.foundation.specs.Plan.{Planning, lower, upper}
+use Rattle.foundation.specs.Pattern.{Lent, lent, patternOf, patternFault, judged}
+use Rattle.foundation.specs.Plan.{Planning, lower, upper, after}
 use Rattle.foundation.specs.Slots.{slotsOf, slotStarts}
 use Rattle.foundation.specs.PlanCall.{Counts, LentPlan, WorkSizes, subscripts, countsOf, sizesFit, sameCounts, sameSide, agrees, held}
 use Rattle.answers.specs.Answers.{counted, countsIn, refusalOf, verifyAnswerOf, verifyAnswer}
@@ -22,9 +22,9 @@ use Rattle.store_clear.specs.Clearing.{Zeros}
 use Rattle.store_lists.specs.Chains.{Chained}
 use Rattle.plan_gather.specs.Ready.{Ready, planOf}
 use Rattle.plan_gather.specs.Contains.{used}
-use Rattle.plan_gather.specs.Steps.{ChainsAt, EndsAre, chainStores}
+use Rattle.plan_gather.specs.Steps.{unmetAt, ChainsAt, EndsAre, chainStores}
 use Rattle.plan_pattern.specs.Sizes.{lengthsFit}
-use Rattle.plan_gather.proofs.Progress.{reads-all, chains-begin}
+use Rattle.plan_gather.proofs.Progress.{counted-all, chains-begin}
 use Rattle.plan_pattern.proofs.Sizing.{fit-lengths, sizes-fit}
 use Rattle.plan_gather.proofs.Passing.{fault-ready}
 use Rattle.verify_loop.specs.Progress.{BothContain}
@@ -108,7 +108,7 @@ module _ (p : Lent) (lSubs lStarts lSlots uSubs uStarts uSlots : List ℕ) (coun
       let s : Planning = planOf p in
       let a : getD lSlots (p .n) 0 ≡ slotsOf s lower (p .n) = both .lowers .slots-at (p .n) (omega arith) in
       let b : getD uSlots (p .n) 0 ≡ slotsOf s upper (p .n) = both .uppers .slots-at (p .n) (omega arith) in
-      let r : reads ≡ s .reads = ends .read ∙ reads-all p ready in
+      let r : reads ≡ s .reads = ends .read ∙ counted-all p ready in
       rw (a, b, ends .lower-end, ends .upper-end, r)
 
 module _ (most n : ℕ) (starts columns : List ℕ) (counts : PlanCounts) (lSubs lStarts lSlots uSubs uStarts uSlots rowHeads rowLinks setHeads setLinks list spare : List ℕ) where
@@ -161,7 +161,7 @@ module _ (most n : ℕ) (starts columns : List ℕ) (counts : PlanCounts) (lSubs
 
       -- what the steps take for granted
       pub verify-steps-ask :
-          {rowHeads′ rowLinks′ setHeads′ setLinks′ : List ℕ} → Chained rowHeads′ rowLinks′ n (planOf pattern .firstMet)
+          {rowHeads′ rowLinks′ setHeads′ setLinks′ : List ℕ} → Chained rowHeads′ rowLinks′ n (unmetAt pattern (after (patternOf pattern) 0))
           → Zeros setHeads setHeads′ × Zeros setLinks setLinks′
           → (Ready pattern × ChainsAt pattern n 0 (chainStores rowHeads′ rowLinks′ setHeads′ setLinks′)) × LentSizes n lStarts lSlots uStarts uSlots list spare
       verify-steps-ask rows sets =

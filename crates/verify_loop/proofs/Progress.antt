@@ -8,67 +8,51 @@ use lib.ListN.{length, take, getD, length-take}
 use lib.Seq.{take-take, ext-getD}
 use Rattle.lists.specs.Functions.{same}
 use Rattle.lists.proofs.Members.{and-left, and-right, and-both, same-equal, equal-same}
-use Rattle.foundation.specs.Pattern.{Lent, patternOf}
-use Rattle.foundation.specs.Plan.{Planning, Side, lower, upper, after}
+use Rattle.foundation.specs.Pattern.{Lent}
+use Rattle.foundation.specs.Plan.{Planning, Side, lower, upper}
 use Rattle.foundation.specs.Subscripts.{shared, startsStore}
 use Rattle.foundation.specs.Slots.{slotStarts}
 use Rattle.foundation.specs.PlanCall.{SideStores, PlanStores, subscripts, sameSide}
 use Rattle.foundation.proofs.Opening.{store-begins, length-grows, starts-stay}
 use Rattle.foundation.proofs.Starts.{length-slot-starts, slot-start-at, slots-none, length-starts, start-at}
-use Rattle.answers.specs.Stores.{planStores, sideStores}
-use Rattle.store_lists.specs.Chains.{Chained}
 use Rattle.plan_gather.specs.Ready.{Ready, planOf}
 use Rattle.plan_gather.specs.Contains.{used, Contains}
-use Rattle.plan_gather.specs.Steps.{StepOf, ChainsOf, BothSlots, moreReads, ChainsAt, EndsAre, ChainStores, chainStores, SideAt}
-use Rattle.plan_gather.proofs.Contains.{used-none, both-slots}
-use Rattle.plan_gather.proofs.Progress.{chains-at, set-inside, reads-more, ends-none}
+use Rattle.plan_gather.specs.Steps.{StepOf, ChainsAt, EndsAre, ChainStores, chainStores, SideAt}
+use Rattle.plan_gather.proofs.Contains.{used-none}
+use Rattle.plan_gather.proofs.Progress.{sets-counted, ends-none}
+use Rattle.plan_lists.specs.declared.lying.Lists.{Lists}
+use Rattle.plan_lists.specs.Lying.{ListsWhole}
 use Rattle.verify_loop.specs.Progress.{BothContain}
 
 -- ---- what a step hands to the functions that it calls, and what it leaves
 
--- the reads of a step are counted
-pub verify-total-asks :
-    {p : Lent} {n k : ℕ} {rowHeads rowLinks setHeads setLinks lSubs lStarts lSlots uSubs uStarts uSlots : List ℕ}
-    → StepOf p n k × ChainsAt p n (k - 1) (chainStores rowHeads rowLinks setHeads setLinks)
-    → BothContain p n (k - 1) (planStores lSubs lStarts lSlots uSubs uStarts uSlots)
-    → (StepOf p n k × ChainsOf p k (getD rowHeads k 0) rowLinks (getD setHeads k 0) setLinks × (length setLinks ≡ suc n)) × BothSlots p n (k - 1) lSlots uSlots
-verify-total-asks (step, chains) both =
-    ((step, chains-at _ _ _ _ _ _ _ step chains, chains .set-chains .links-size), both-slots (both .lowers) (both .uppers))
+module _ {p : Lent} {n k l u reads : ℕ} {stores : PlanStores} (step : StepOf p n k) (both : BothContain p n (k - 1) stores) (ends : EndsAre p (k - 1) l u reads) where
+  -- each side's stores contain the steps before k
+  pub lower-at : SideAt p lower n k (stores .lowerSide) l
+  lower-at = record { step = step; contained = both .lowers; end-is = ends .lower-end }
 
--- the list of one side is looked for
-pub verify-side-asks :
-    {p : Lent} {side : Side} {n k end listSize spareSize : ℕ} {rowHeads rowLinks setHeads setLinks subs starts slots : List ℕ}
-    → StepOf p n k × ChainsAt p n (k - 1) (chainStores rowHeads rowLinks setHeads setLinks)
-    → Contains (planOf p) side n (k - 1) (sideStores subs starts slots) → end ≡ used (planOf p) side (k - 1) → (listSize ≡ n) × (spareSize ≡ n)
-    → (SideAt p side n k (sideStores subs starts slots) end × ChainsOf p k (getD rowHeads k 0) rowLinks (getD setHeads k 0) setLinks
-    × (getD setHeads k 0 < length setLinks)) × ((listSize ≡ n) × (spareSize ≡ n))
-verify-side-asks (step, chains) contained end-is sizes = (
-  (record { step = step; contained = contained; end-is = end-is }, chains-at _ _ _ _ _ _ _ step chains, set-inside _ _ _ _ _ _ _ step chains),
-  sizes,
-)
+  pub upper-at : SideAt p upper n k (stores .upperSide) u
+  upper-at = record { step = step; contained = both .uppers; end-is = ends .upper-end }
 
--- it is handed on
-pub verify-hand-asks :
-    {p : Lent} {n k : ℕ} {rowHeads rowLinks setHeads setLinks lSubs lStarts lSlots uSubs uStarts uSlots : List ℕ}
-    → StepOf p n k × ChainsAt p n (k - 1) (chainStores rowHeads rowLinks setHeads setLinks)
-    → BothContain p n k (planStores lSubs lStarts lSlots uSubs uStarts uSlots)
-    → (StepOf p n k × BothSlots p n k lSlots uSlots)
-    × (Contains (planOf p) upper n k (sideStores uSubs uStarts uSlots) × Chained setHeads setLinks n (after (patternOf p) (k - 1) .S))
-verify-hand-asks (step, chains) both = ((step, both-slots (both .lowers) (both .uppers)), (both .uppers, chains .set-chains))
+  -- its lists are made
+  pub verify-lists-ask :
+      {rowHeads rowLinks setHeads setLinks : List ℕ} {listSize spareSize : ℕ} → ChainsAt p n (k - 1) (chainStores rowHeads rowLinks setHeads setLinks)
+      → (listSize ≡ n) × (spareSize ≡ n)
+      → (SideAt p lower n k (stores .lowerSide) l × SideAt p upper n k (stores .upperSide) u)
+      × ((ChainsAt p n (k - 1) (chainStores rowHeads rowLinks setHeads setLinks) × (getD rowHeads k 0 ≡ getD rowHeads k 0))
+      × (EndsAre p (k - 1) l u reads × ((listSize ≡ n) × (spareSize ≡ n))))
+  verify-lists-ask chains sizes = ((lower-at, upper-at), ((chains, refl), (ends, sizes)))
 
 -- the lent stores contain it
 pub verify-on :
-    {p : Lent} {n k l u reads more l′ u′ : ℕ} {rowHeads rowLinks setHeads setLinks setHeads′ setLinks′ lSubs lStarts lSlots uSubs uStarts uSlots : List ℕ}
-    → StepOf p n k × ChainsAt p n (k - 1) (chainStores rowHeads rowLinks setHeads setLinks)
-    → EndsAre p (k - 1) l u reads → more ≡ moreReads p k
-    → (l′ ≡ used (planOf p) lower k) × (u′ ≡ used (planOf p) upper k) × BothContain p n k (planStores lSubs lStarts lSlots uSubs uStarts uSlots)
-    → Chained setHeads′ setLinks′ n (after (patternOf p) k .S)
-    → EndsAre p k l′ u′ (reads + more) × ChainsAt p n k (chainStores rowHeads rowLinks setHeads′ setLinks′)
-    × BothContain p n k (planStores lSubs lStarts lSlots uSubs uStarts uSlots)
-verify-on (step, chains) ends added (lower-end, upper-end, both) handed = (
-  record { lower-end = lower-end; upper-end = upper-end; read = reads-more step ends added },
-  record { row-chains = chains .row-chains; set-chains = handed },
-  both,
+    {lists : Lists} {p : Lent} {n k row l u : ℕ} {lowers uppers : List ℕ} {chained : ChainStores} {stores : PlanStores} → StepOf p n k
+    → ListsWhole lists p n k row lowers uppers → ChainsAt p n k chained → (l ≡ used (planOf p) lower k) × Contains (planOf p) lower n k (stores .lowerSide)
+    → (u ≡ used (planOf p) upper k) × Contains (planOf p) upper n k (stores .upperSide)
+    → EndsAre p k l u (lists .reads) × ChainsAt p n k chained × BothContain p n k stores
+verify-on step whole chains (lower-end, lowers) (upper-end, uppers) = (
+  record { lower-end = lower-end; upper-end = upper-end; read = whole .at .counted ∙ sets-counted step },
+  chains,
+  record { lowers = lowers; uppers = uppers },
 )
 
 -- ---- stores that contain steps
@@ -178,7 +162,7 @@ verify-start same read (ready, chains) (a, b, c, d, e, f) l u = record {
   high = omega arith;
   chains = chains;
   both = record { lowers = contains-none _ lower _ _ a b l; uppers = contains-none _ upper _ _ c d u };
-  ends = ends-none _ 0 0 _ refl refl read;
+  ends = ends-none _ ready 0 0 _ refl refl read;
   list-size = e;
   spare-size = f;
 }

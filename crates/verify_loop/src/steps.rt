@@ -9,11 +9,10 @@ ghost use Rattle.plan_gather.specs.Ready.{Ready};
 ghost use Rattle.plan_gather.specs.Steps.{StepOf, ChainsAt, EndsAre, chainStores};
 ghost use Rattle.verify_loop.specs.Progress.{BothContain, StepCompared, AllCompared};
 use answers::SubscriptPlace;
-use plan_gather::hand_on;
-use plan_gather::step_total;
+use plan_turn::step_lists;
 use verify_sides::Verified;
-use verify_sides::verify_lower;
-use verify_sides::verify_upper;
+use verify_sides::find_lower;
+use verify_sides::find_upper;
 
 // What steps compared so far come to: where both sides' used subscripts end and the reads, or that the lent plan differs.
 pub enum Compared {
@@ -21,13 +20,13 @@ pub enum Compared {
     Differs,
 }
 
-// Step k of verifying a lent plan, L first.
+// Step k of verifying a lent plan: its lists by the report's 2.1 to 2.5, and whether they stand in their stores, L first.
 fn verify_step(
     n: usize,
     k: usize,
     starts: &[usize],
     columns: &[usize],
-    row_heads: &[usize],
+    row_heads: &mut [usize],
     row_links: &[usize],
     set_heads: &mut [usize],
     set_links: &mut [usize],
@@ -50,75 +49,56 @@ fn verify_step(
     requires { ⌜ EndsAre (lent n (now starts) (now columns)) (k - 1) («l_end» .0) («u_end» .0) reads ⌝ }
     requires { ⌜ (length (now list) ≡ n) × (length (now spare) ≡ n) ⌝ }
     ensures { λ r. ⌜ StepCompared r (lent n (now (starts .entry)) (now (columns .entry))) n k
-        (chainStores (now («row_heads» .entry)) (now («row_links» .entry)) (now («set_heads» .exit)) (now («set_links» .exit)))
+        (chainStores (now («row_heads» .exit)) (now («row_links» .entry)) (now («set_heads» .exit)) (now («set_links» .exit)))
         (planStores (now («l_subs» .entry)) (now («l_starts» .entry)) (now («l_slots» .entry))
         (now («u_subs» .entry)) (now («u_starts» .entry)) (now («u_slots» .entry))) ⌝ }
 {
     let row = row_heads[k];
-    let set = set_heads[k];
-    let more = step_total(
+    let lists = step_lists(
         n,
         k,
         row,
-        row_links,
-        set,
-        set_links,
         starts,
         columns,
-        l_slots,
-        u_slots,
-    );
-    let lowers = verify_lower(
-        n,
-        k,
-        row,
+        row_heads,
         row_links,
-        set,
+        set_heads,
         set_links,
-        starts,
-        columns,
         l_subs,
         l_starts,
         l_slots,
-        list,
-        spare,
-        l_end,
-    );
-    let Verified::End(l_next) = lowers else {
-        return Compared::Differs;
-    };
-    let uppers = verify_upper(
-        n,
-        k,
-        row,
-        row_links,
-        set,
-        set_links,
-        starts,
-        columns,
         u_subs,
         u_starts,
         u_slots,
+        l_end,
+        u_end,
+        reads,
         list,
         spare,
+    );
+    let l_lies = lists.lower;
+    let u_lies = lists.upper;
+    let lowers = find_lower(n, k, row, l_lies, list, l_subs, l_starts, l_slots, l_end);
+    let Verified::End(l_next) = lowers else {
+        return Compared::Differs;
+    };
+    let uppers = find_upper(
+        n,
+        k,
+        row,
+        u_lies,
+        starts,
+        columns,
+        spare,
+        u_subs,
+        u_starts,
+        u_slots,
         u_end,
     );
     let Verified::End(u_next) = uppers else {
         return Compared::Differs;
     };
-    hand_on(
-        n,
-        k,
-        starts,
-        columns,
-        l_slots,
-        u_subs,
-        u_starts,
-        u_slots,
-        set_heads,
-        set_links,
-    );
-    Compared::Agrees(l_next, u_next, reads + more)
+    Compared::Agrees(l_next, u_next, lists.reads)
 }
 
 // Steps 1 to n. The starts of the first slots are looked at before the first step.
@@ -126,7 +106,7 @@ pub fn verify_steps(
     n: usize,
     starts: &[usize],
     columns: &[usize],
-    row_heads: &[usize],
+    row_heads: &mut [usize],
     row_links: &[usize],
     set_heads: &mut [usize],
     set_links: &mut [usize],

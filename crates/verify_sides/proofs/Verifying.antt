@@ -1,6 +1,6 @@
 -- The stores of a side of a lent plan compared with this pattern's plan at one step, all steps before it having been found equal.
 use mathlib.Core.Bool.{Bool, true, false, _&&_, false≢true}
-use mathlib.Core.List.{List, [], _++_}
+use mathlib.Core.List.{List, _++_}
 use mathlib.Core.Path.{_≡_, refl, sym, ap, _∙_}
 use Prim.Native.Nat.{ℕ, suc, _+_, _-_, _*_, _^_, _≤_, _<_}
 use native.Mathlib.Decide.{decLe}
@@ -24,8 +24,10 @@ use Rattle.plan_gather.specs.Contains.{used, Contains}
 use Rattle.plan_gather.specs.Steps.{SideAt}
 use Rattle.plan_gather.proofs.Contains.{used-next}
 use Rattle.plan_share.specs.Adding.{RestOf}
-use Rattle.plan_share.specs.Sole.{soleStart, soleSlots, soleFollowed}
-use Rattle.plan_share.proofs.Adding.{rest-length, rest-added, rest-start, rest-used, sole-slots-are, sole-added, sole-start, sole-used}
+use Rattle.plan_share.specs.Sole.{SoleReady, soleStart, soleSlots, soleFollowed}
+use Rattle.plan_share.proofs.Adding.{rest-length, rest-added, rest-start, rest-used, sole-ready, sole-slots-are, sole-added, sole-start, sole-used}
+use Rattle.plan_lists.specs.Lying.{OfSole}
+use Rattle.plan_lists.proofs.Whole.{sole-is, sole-some}
 use Rattle.verify_sides.specs.Verifying.{FoundAs, VerifiedAs}
 use Rattle.verify_sides.specs.declared.kept_lists.Verified.{Verified}
 use Rattle.verify_sides.specs.declared.kept_lists.Verified.the-variants.{End, Differs}
@@ -122,33 +124,37 @@ module _ {p : Lent} {side : Side} {n k t : ℕ} {rest : List ℕ} {i : SideStore
 
 -- ---- the list of a sole step
 
-module _ {p : Lent} {side : Side} {n k l : ℕ} {i : SideStores} {end : ℕ} (at : SideAt p side n k i end) (sole-is : l ≡ soleStep (planOf p) k)
-    (some : l ≡ 0 → ⊥) {found : Bool} (looked : found ≡ soleFollowed k l (i .starts) (i .slotStarts) end) where
-  abbrev ends : Bool
-  ends = eqb (getD (i .slotStarts) k 0) (soleSlots k l (i .slotStarts))
+module _ {p : Lent} {side : Side} {n k l : ℕ} {xs : List ℕ} {i : SideStores} {end : ℕ} (at : SideAt p side n k i end) (of : OfSole p side k l xs) where
+  -- the place of its list can be read
+  pub sole-asks : SoleReady k l (i .starts) (i .slotStarts)
+  sole-asks = sole-ready at (sole-is of) (sole-some of)
 
-  abbrev begins : Bool
-  begins = eqb (getD (i .starts) (k - 1) 0) (soleStart l (i .starts) (i .slotStarts) end)
+  module _ {found : Bool} (looked : found ≡ soleFollowed k l (i .starts) (i .slotStarts) end) where
+    abbrev ends : Bool
+    ends = eqb (getD (i .slotStarts) k 0) (soleSlots k l (i .slotStarts))
 
-  -- the stores begin with step k too, and end where they did
-  pub sole-agrees : found ≡ true → (end ≡ used (planOf p) side k) × Contains (planOf p) side n k i
-  unfolding soleFollowed
-  sole-agrees e =
-      let both : ends && begins ≡ true = sym looked ∙ e in
-      let slots : getD (i .slotStarts) k 0 ≡ soleSlots k l (i .slotStarts) = eqb-true _ _ (and-left ends begins both) in
-      let start : getD (i .starts) (k - 1) 0 ≡ soleStart l (i .starts) (i .slotStarts) end = eqb-true _ _ (and-right ends begins both) in (
-        sym (sole-used at sole-is some),
-        contains-next (planOf p) side (at .step .low) (at .contained) (sole-added at sole-is some) (sole-start at sole-is some) start
-            (slots ∙ sole-slots-are at sole-is some) refl,
-      )
+    abbrev begins : Bool
+    begins = eqb (getD (i .starts) (k - 1) 0) (soleStart l (i .starts) (i .slotStarts) end)
 
-  -- the stores do not contain step k
-  pub sole-differs : found ≡ false → Contains (planOf p) side n k i → ⊥
-  unfolding soleFollowed
-  sole-differs e next =
-      let adds = sole-added at sole-is some in
-      let starts = sole-start at sole-is some in
-      let low = at .step .low in
-      let slots = next-slots (planOf p) side low (at .contained) adds starts next ∙ sym (sole-slots-are at sole-is some) in
-      let start = next-start (planOf p) side low (at .contained) adds starts next in
-      false≢true (sym e ∙ looked ∙ and-both ends begins (eq-eqb _ _ slots) (eq-eqb _ _ start))
+    -- the stores begin with step k too, and end where they did
+    pub sole-agrees : found ≡ true → (end ≡ used (planOf p) side k) × Contains (planOf p) side n k i
+    unfolding soleFollowed
+    sole-agrees e =
+        let both : ends && begins ≡ true = sym looked ∙ e in
+        let slots : getD (i .slotStarts) k 0 ≡ soleSlots k l (i .slotStarts) = eqb-true _ _ (and-left ends begins both) in
+        let start : getD (i .starts) (k - 1) 0 ≡ soleStart l (i .starts) (i .slotStarts) end = eqb-true _ _ (and-right ends begins both) in (
+          sym (sole-used at (sole-is of) (sole-some of)),
+          contains-next (planOf p) side (at .step .low) (at .contained) (sole-added at (sole-is of) (sole-some of)) (sole-start at (sole-is of) (sole-some of)) start
+              (slots ∙ sole-slots-are at (sole-is of) (sole-some of)) refl,
+        )
+
+    -- the stores do not contain step k
+    pub sole-differs : found ≡ false → Contains (planOf p) side n k i → ⊥
+    unfolding soleFollowed
+    sole-differs e next =
+        let adds = sole-added at (sole-is of) (sole-some of) in
+        let starts = sole-start at (sole-is of) (sole-some of) in
+        let low = at .step .low in
+        let slots = next-slots (planOf p) side low (at .contained) adds starts next ∙ sym (sole-slots-are at (sole-is of) (sole-some of)) in
+        let start = next-start (planOf p) side low (at .contained) adds starts next in
+        false≢true (sym e ∙ looked ∙ and-both ends begins (eq-eqb _ _ slots) (eq-eqb _ _ start))

@@ -10,8 +10,6 @@ use Rattle.plan_gather.specs.Ready.{planOf}
 use Rattle.plan_gather.specs.Contains.{used, Contains}
 use Rattle.verify_sides.specs.declared.kept_lists.Verified.{Verified}
 use Rattle.verify_sides.specs.declared.kept_lists.Verified.the-variants.{End, Differs}
-use Rattle.verify_sides.specs.declared.sides.Sought.{Sought}
-use Rattle.verify_sides.specs.declared.sides.Sought.the-variants.{Found, Anew}
 
 -- the rest of a list, its start and the end of its slots stand where they should, and where its subscripts end; or one of them does not
 abbrev pub FoundAs : Verified → ℕ → ℕ → List ℕ → SideStores → ℕ → Type 0
@@ -28,8 +26,3 @@ FoundAs Differs k shared rest i end =
 abbrev pub VerifiedAs : Verified → Lent → Side → ℕ → ℕ → SideStores → Type 0
 VerifiedAs (End place) p side n k i = (place .0 ≡ used (planOf p) side k) × Contains (planOf p) side n k i
 VerifiedAs Differs p side n k i = Contains (planOf p) side n k i → ⊥
-
--- what was looked for behind the last list; or it is not to be found there
-abbrev pub SoughtAs : Sought → Lent → Side → ℕ → ℕ → SideStores → Type 0
-SoughtAs (Found r) p side n k i = VerifiedAs r p side n k i
-SoughtAs Anew p side n k i = Unit

@@ -1,6 +1,6 @@
 -- Pattern, plan, subscripts, slots, planning's call: `unfolding patterns`, `unfolding plans`.
 use Rattle.foundation.specs.Pattern.{lent, column, present, rowOf, patternOf, maxN, maxEntries, tooLarge, notFalling, startsFit, entriesFault, firstFault, rowFault, rowsFault, patternFault, judged}
-use Rattle.foundation.specs.Plan.{list, beforeSteps, unmetRows, brings, fromRows, fromSteps, gathered, handOn, readsAt, turn, after, plan}
+use Rattle.foundation.specs.Plan.{list, beforeSteps, unmetRows, brings, fromSteps, handOn, readsOfRows, readsOfSteps, soFar, initialized, rowsObtained, influenced, stepsCollected, setsUpdated, collectedIfInfluenced, turn, after, afterInitialization, afterRows, afterTest, afterSteps, plan}
 use Rattle.foundation.specs.Subscripts.{kept, only, soleStep, sharedEnd, startAt, addedAt, shared, opened, startsStore, short, roomFault}
 use Rattle.foundation.specs.Slots.{slotIn, hasSlot, slotsOf, slotStarts, slotAt}
 use Rattle.foundation.specs.PlanCall.{countNumbers, subscripts, countsOf, workFits, startsSized, sizesFit, planned, planAnswer, subscriptsAfter, startsAfter, slotStartsAfter, sideAfter, planLeaves, sameCounts, sameSide, agrees, held}
@@ -11,5 +11,5 @@ unfolding answers lent column present rowOf patternOf maxN maxEntries tooLarge n
 patterns = tt
 
 unfoldable pub plans : Unit {0}
-unfolding patterns list beforeSteps unmetRows brings fromRows fromSteps gathered handOn readsAt turn after plan kept only soleStep sharedEnd startAt addedAt shared opened startsStore short roomFault slotIn hasSlot slotsOf slotStarts slotAt countNumbers subscripts countsOf workFits startsSized sizesFit planned planAnswer subscriptsAfter startsAfter slotStartsAfter sideAfter planLeaves sameCounts sameSide agrees held
+unfolding patterns list beforeSteps unmetRows brings fromSteps handOn readsOfRows readsOfSteps soFar initialized rowsObtained influenced stepsCollected setsUpdated collectedIfInfluenced turn after afterInitialization afterRows afterTest afterSteps plan kept only soleStep sharedEnd startAt addedAt shared opened startsStore short roomFault slotIn hasSlot slotsOf slotStarts slotAt countNumbers subscripts countsOf workFits startsSized sizesFit planned planAnswer subscriptsAfter startsAfter slotStartsAfter sideAfter planLeaves sameCounts sameSide agrees held
 plans = tt

@@ -38,33 +38,33 @@ clear-chains-from-calling-plan-steps c =
 abbrev clear-chains-from-plan-steps : tie.After-plan-steps → tie.After-clear-chains
 clear-chains-from-plan-steps c = clear-chains-from-calling-plan-steps (c .before)
 
+abbrev chain-rows-from-plan-steps : tie.After-plan-steps → tie.After-chain-rows
+chain-rows-from-plan-steps c = clear-chains-from-plan-steps c .before .before .before .before .before .before .before
+
 abbrev clear-side2-from-plan-steps : tie.After-plan-steps → tie.After-clear-side2
-clear-side2-from-plan-steps c = clear-side2-from-chain-rows (clear-chains-from-plan-steps c .before .before .before .before .before .before .before)
+clear-side2-from-plan-steps c = clear-side2-from-chain-rows (chain-rows-from-plan-steps c)
 
 abbrev clear-side-from-plan-steps : tie.After-plan-steps → tie.After-clear-side
 clear-side-from-plan-steps c = clear-side-from-clear-side2 (clear-side2-from-plan-steps c)
 
-abbrev pattern-fault-else-from-making-l-last : tie.After-slice-known32 → tie.Else1
+abbrev pattern-fault-else-from-making-l-last : tie.After-slice-known33 → tie.Else1
 pattern-fault-else-from-making-l-last c =
     lengths-fit-else-from-clear-side2 (clear-side2-from-plan-steps (c .before .before .before .before .before .before .before .before .before .before .before
-    .before .before .before .before .before .before .before .before .before)) .before .before
+    .before .before .before .before .before .before .before .before .before .before .before)) .before .before
 
-abbrev plan-steps-from-reading-l-last : tie.After-slice-known33 → tie.After-plan-steps
+abbrev plan-steps-from-reading-l-last : tie.After-slice-known34 → tie.After-plan-steps
 plan-steps-from-reading-l-last c =
     c .before .before .before .before .before .before .before .before .before .before .before .before .before .before .before .before .before .before .before
-    .before .before
+    .before .before .before .before
 
-abbrev pattern-fault-else-from-reading-l-last : tie.After-slice-known33 → tie.Else1
+abbrev pattern-fault-else-from-reading-l-last : tie.After-slice-known34 → tie.Else1
 pattern-fault-else-from-reading-l-last c = pattern-fault-else-from-making-l-last (c .before)
 
-abbrev plan-steps-from-calling-answer-of : tie.After-slice-known34 → tie.After-plan-steps
+abbrev plan-steps-from-calling-answer-of : tie.After-slice-known35 → tie.After-plan-steps
 plan-steps-from-calling-answer-of c = plan-steps-from-reading-l-last (c .before)
 
 abbrev plan-steps-from-answer-of : tie.After-answer-of → tie.After-plan-steps
 plan-steps-from-answer-of c = plan-steps-from-calling-answer-of (c .before)
-
-abbrev chain-rows-from-answer-of : tie.After-answer-of → tie.After-chain-rows
-chain-rows-from-answer-of c = clear-chains-from-plan-steps (plan-steps-from-answer-of c) .before .before .before .before .before .before .before
 
 pattern-fault-requires : tie.Need-pattern-fault-requires
 pattern-fault-requires c κs = tt
@@ -208,10 +208,12 @@ same-length-6 c =
     at-plan-steps .plan-steps .kept .1 .1 .1 .1 .1 .1 .1 .1 .1 .1 .1 .1 .0 ∙ clear-side2-from-plan-steps at-plan-steps .clear-side2 .kept .1 .1 .0
 
 same-length-7 : tie.Need-same-length-7
-same-length-7 c = chain-rows-from-answer-of c .chain-rows .kept .1 .1 .1 .0
+same-length-7 c =
+    let at-plan-steps = plan-steps-from-answer-of c in
+    at-plan-steps .plan-steps .kept .1 .1 .1 .0 ∙ chain-rows-from-plan-steps at-plan-steps .chain-rows .kept .1 .1 .1 .0
 
 same-length-8 : tie.Need-same-length-8
-same-length-8 c = chain-rows-from-answer-of c .chain-rows .kept .1 .1 .1 .1 .0
+same-length-8 c = chain-rows-from-plan-steps (plan-steps-from-answer-of c) .chain-rows .kept .1 .1 .1 .1 .0
 
 same-length-9 : tie.Need-same-length-9
 same-length-9 c =

@@ -23,22 +23,23 @@ clear-chains-from-calling-verify-steps c = c .before .before .before .before .be
 abbrev clear-chains-from-verify-steps : tie.After-verify-steps → tie.After-clear-chains
 clear-chains-from-verify-steps c = clear-chains-from-calling-verify-steps (c .before)
 
+abbrev chain-rows-from-verify-steps : tie.After-verify-steps → tie.After-chain-rows
+chain-rows-from-verify-steps c = clear-chains-from-verify-steps c .before .before .before .before .before .before .before
+
 abbrev lengths-fit-else-from-verify-steps : tie.After-verify-steps → tie.Else2
-lengths-fit-else-from-verify-steps c = clear-chains-from-verify-steps c .before .before .before .before .before .before .before .before .before .before
+lengths-fit-else-from-verify-steps c = chain-rows-from-verify-steps c .before .before .before
 
 abbrev pattern-fault-else-from-making-t27 : tie.After-known-told → tie.Else1
 pattern-fault-else-from-making-t27 c =
-    lengths-fit-else-from-verify-steps (c .before .before .before .before .before .before .before .before .before .before .before) .before .before
+    lengths-fit-else-from-verify-steps (c .before .before .before .before .before .before .before .before .before .before .before .before .before) .before
+    .before
 
 abbrev verify-steps-from-end3 : tie.After-enum-told → tie.After-verify-steps
-verify-steps-from-end3 c = c .before .before .before .before .before .before .before .before .before .before
-
-abbrev chain-rows-from-end3 : tie.After-enum-told → tie.After-chain-rows
-chain-rows-from-end3 c = clear-chains-from-verify-steps (verify-steps-from-end3 c) .before .before .before .before .before .before .before
+verify-steps-from-end3 c = c .before .before .before .before .before .before .before .before .before .before .before .before
 
 abbrev lengths-fit-else-from-reading-t28 : tie.After-shared-slice-known9 → tie.Else2
 lengths-fit-else-from-reading-t28 c =
-    lengths-fit-else-from-verify-steps (c .before .before .before .before .before .before .before .before .before .before .before .before)
+    lengths-fit-else-from-verify-steps (c .before .before .before .before .before .before .before .before .before .before .before .before .before .before)
 
 abbrev pattern-fault-else-from-reading-t28 : tie.After-shared-slice-known9 → tie.Else1
 pattern-fault-else-from-reading-t28 c = pattern-fault-else-from-making-t27 (c .before)
@@ -47,18 +48,12 @@ abbrev lengths-fit-else-from-calling-same-counts : tie.After-shared-slice-known1
 lengths-fit-else-from-calling-same-counts c = lengths-fit-else-from-reading-t28 (c .before)
 
 abbrev verify-steps-from-same-counts-then : tie.Then3 → tie.After-verify-steps
-verify-steps-from-same-counts-then c = c .before .before .before .before .before .before .before .before .before .before .before .before .before .before .before
-
-abbrev chain-rows-from-same-counts-then : tie.Then3 → tie.After-chain-rows
-chain-rows-from-same-counts-then c =
-    clear-chains-from-verify-steps (verify-steps-from-same-counts-then c) .before .before .before .before .before .before .before
+verify-steps-from-same-counts-then c =
+    c .before .before .before .before .before .before .before .before .before .before .before .before .before .before .before .before .before
 
 abbrev verify-steps-from-same-counts-else : tie.Else3 → tie.After-verify-steps
-verify-steps-from-same-counts-else c = c .before .before .before .before .before .before .before .before .before .before .before .before .before .before .before
-
-abbrev chain-rows-from-same-counts-else : tie.Else3 → tie.After-chain-rows
-chain-rows-from-same-counts-else c =
-    clear-chains-from-verify-steps (verify-steps-from-same-counts-else c) .before .before .before .before .before .before .before
+verify-steps-from-same-counts-else c =
+    c .before .before .before .before .before .before .before .before .before .before .before .before .before .before .before .before .before
 
 pattern-fault-requires : tie.Need-pattern-fault-requires
 pattern-fault-requires c κs = tt
@@ -123,10 +118,12 @@ enum-told : tie.Need-enum-told
 enum-told c = c .match .keys2
 
 same-length : tie.Need-same-length
-same-length c = chain-rows-from-end3 c .chain-rows .kept .1 .1 .1 .0
+same-length c =
+    let at-verify-steps = verify-steps-from-end3 c in
+    at-verify-steps .verify-steps .kept .1 .1 .1 .0 ∙ chain-rows-from-verify-steps at-verify-steps .chain-rows .kept .1 .1 .1 .0
 
 same-length-2 : tie.Need-same-length-2
-same-length-2 c = chain-rows-from-end3 c .chain-rows .kept .1 .1 .1 .1 .0
+same-length-2 c = chain-rows-from-verify-steps (verify-steps-from-end3 c) .chain-rows .kept .1 .1 .1 .1 .0
 
 same-length-3 : tie.Need-same-length-3
 same-length-3 c =
@@ -146,7 +143,7 @@ same-length-6 c = verify-steps-from-end3 c .verify-steps .kept .1 .1 .1 .1 .1 .1
 
 returns-3 : tie.Need-returns-3
 returns-3 c =
-    let at-verify-steps = c .before .before .before .before .before .before .before .before .before .before in
+    let at-verify-steps = c .before .before .before .before .before .before .before .before .before .before .before .before in
     let at-lengths-fit-else = lengths-fit-else-from-verify-steps at-verify-steps in
     let at-lengths-fit = at-lengths-fit-else .before in
     let at-pattern-fault-else = at-lengths-fit .before in
@@ -198,10 +195,12 @@ same-counts-requires : tie.Need-same-counts-requires
 same-counts-requires c κs = tt
 
 same-length-7 : tie.Need-same-length-7
-same-length-7 c = chain-rows-from-same-counts-then c .chain-rows .kept .1 .1 .1 .0
+same-length-7 c =
+    let at-verify-steps = verify-steps-from-same-counts-then c in
+    at-verify-steps .verify-steps .kept .1 .1 .1 .0 ∙ chain-rows-from-verify-steps at-verify-steps .chain-rows .kept .1 .1 .1 .0
 
 same-length-8 : tie.Need-same-length-8
-same-length-8 c = chain-rows-from-same-counts-then c .chain-rows .kept .1 .1 .1 .1 .0
+same-length-8 c = chain-rows-from-verify-steps (verify-steps-from-same-counts-then c) .chain-rows .kept .1 .1 .1 .1 .0
 
 same-length-9 : tie.Need-same-length-9
 same-length-9 c =
@@ -222,7 +221,7 @@ same-length-12 c = verify-steps-from-same-counts-then c .verify-steps .kept .1 .
 returns-4 : tie.Need-returns-4
 returns-4 c =
     let at-ended = c .before .before .before .before .before in
-    let at-verify-steps = at-ended .before .before .before .before .before .before .before .before .before .before in
+    let at-verify-steps = at-ended .before .before .before .before .before .before .before .before .before .before .before .before in
     let at-lengths-fit-else = lengths-fit-else-from-verify-steps at-verify-steps in
     let at-lengths-fit = at-lengths-fit-else .before in
     let at-pattern-fault-else = at-lengths-fit .before in
@@ -236,10 +235,12 @@ returns-4 c =
     (c .before .same-counts .ensures) (not-true _ (c .if3 .taken))
 
 same-length-13 : tie.Need-same-length-13
-same-length-13 c = chain-rows-from-same-counts-else c .chain-rows .kept .1 .1 .1 .0
+same-length-13 c =
+    let at-verify-steps = verify-steps-from-same-counts-else c in
+    at-verify-steps .verify-steps .kept .1 .1 .1 .0 ∙ chain-rows-from-verify-steps at-verify-steps .chain-rows .kept .1 .1 .1 .0
 
 same-length-14 : tie.Need-same-length-14
-same-length-14 c = chain-rows-from-same-counts-else c .chain-rows .kept .1 .1 .1 .1 .0
+same-length-14 c = chain-rows-from-verify-steps (verify-steps-from-same-counts-else c) .chain-rows .kept .1 .1 .1 .1 .0
 
 same-length-15 : tie.Need-same-length-15
 same-length-15 c =
@@ -260,7 +261,7 @@ same-length-18 c = verify-steps-from-same-counts-else c .verify-steps .kept .1 .
 returns-5 : tie.Need-returns-5
 returns-5 c =
     let at-ended = c .before .before .before .before .before in
-    let at-verify-steps = at-ended .before .before .before .before .before .before .before .before .before .before in
+    let at-verify-steps = at-ended .before .before .before .before .before .before .before .before .before .before .before .before in
     let at-lengths-fit-else = lengths-fit-else-from-verify-steps at-verify-steps in
     let at-lengths-fit = at-lengths-fit-else .before in
     let at-pattern-fault-else = at-lengths-fit .before in

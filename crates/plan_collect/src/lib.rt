@@ -1,0 +1,4 @@
+// The report's 2.4.
+mod collecting;
+
+pub use collecting::collect_steps;

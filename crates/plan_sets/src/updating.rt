@@ -1,0 +1,121 @@
+// Report, 2.5: the step at hand joins a set S.
+ghost use mathlib.Core.List.{List};
+ghost use mathlib.Core.Path.{_≡_};
+ghost use Prim.Native.Nat.{ℕ, _-_, _<_};
+ghost use lib.Dec.{ltb};
+ghost use lib.ListN.{length};
+ghost use Rattle.lists.specs.Sets.{first};
+ghost use Rattle.foundation.specs.Pattern.{Lent, lent, patternOf};
+ghost use Rattle.foundation.specs.Plan.{lower, upper, after};
+ghost use Rattle.foundation.specs.Subscripts.{kept};
+ghost use Rattle.answers.specs.Stores.{sideStores};
+ghost use Rattle.store_lists.specs.Chains.{Chained};
+ghost use Rattle.plan_gather.specs.Ready.{planOf};
+ghost use Rattle.plan_gather.specs.Steps.{SideAt};
+ghost use Rattle.plan_lists.specs.Lying.{WholeAt};
+ghost use Rattle.plan_sets.specs.Whole.{LowerWhole};
+use answers::SubscriptPlace;
+use plan_lists::Lies;
+use store_lists::push;
+
+// Whether L_k has more than one member, that is, its kept list one. One row brings itself; the list of a sole step has k before the members of k's; behind the members that stand at the store's end comes the
+// row itself, or nothing where `from` is 1.
+fn has_further(n: usize, k: usize, row: usize, lies: Lies, slots: &[usize]) -> bool
+    requires { ⌜ ((p : Lent) × LowerWhole lies p n k row (now slots)) ⌝ }
+    ensures { λ r. ⌜ ((p : Lent) → LowerWhole lies p n k row (now (slots .entry)) → r ≡ ltb 0 (length (kept (planOf p) lower k))) ⌝ }
+{
+    match lies {
+        Lies::Grown(count) => 0 < count,
+        Lies::Row => row != k,
+        Lies::Sole(l) => {
+            let slot = slots[l - 1];
+            let next = slots[l];
+            1 < next - slot
+        }
+        Lies::Behind(shared, from) => from <= shared,
+    }
+}
+
+// The least member of U_k but k, where there is one: the first of its kept list. What the one row brings and the list of a sole step have k before it.
+fn least_further(
+    n: usize,
+    k: usize,
+    row: usize,
+    lies: Lies,
+    starts: &[usize],
+    columns: &[usize],
+    subs: &[usize],
+    list_starts: &[usize],
+    end: SubscriptPlace,
+    growing: &[usize],
+) -> usize
+    requires { ⌜ ((slots : List ℕ) × SideAt (lent n (now starts) (now columns)) upper n k (sideStores (now subs) (now «list_starts») slots) (end .0)) ⌝ }
+    requires { ⌜ WholeAt lies (lent n (now starts) (now columns)) upper n k row (now growing) × (0 < length (kept (planOf (lent n (now starts) (now columns))) upper k)) ⌝ }
+    ensures { λ r. ⌜ r ≡ first (kept (planOf (lent n (now (starts .entry)) (now (columns .entry)))) upper k) ⌝ }
+{
+    match lies {
+        Lies::Grown(count) => growing[0],
+        Lies::Row => {
+            let at = starts[row - 1] + 1;
+            columns[at]
+        }
+        Lies::Sole(l) => {
+            let at = list_starts[l - 1] + 1;
+            subs[at]
+        }
+        Lies::Behind(shared, from) => {
+            if 0 < shared {
+                let at = end.0 - shared;
+                return subs[at];
+            }
+            let at = starts[row - 1] + from;
+            columns[at]
+        }
+    }
+}
+
+// Report, 2.5: "Update S: Let σ = min{t | t ∈ L_k - {k}} and ρ = min{t | t ∈ U_k - {k}} (..) set S_ρ = S_ρ ∪ {k} if |L_k| > 1." Only whether there is a σ counts.
+pub fn update_sets(
+    n: usize,
+    k: usize,
+    row: usize,
+    l_lies: Lies,
+    u_lies: Lies,
+    starts: &[usize],
+    columns: &[usize],
+    l_subs: &[usize],
+    l_starts: &[usize],
+    l_slots: &[usize],
+    u_subs: &[usize],
+    u_starts: &[usize],
+    u_slots: &[usize],
+    l_end: SubscriptPlace,
+    u_end: SubscriptPlace,
+    l_growing: &[usize],
+    u_growing: &[usize],
+    set_heads: &mut [usize],
+    set_links: &mut [usize],
+)
+    requires { ⌜ SideAt (lent n (now starts) (now columns)) lower n k (sideStores (now «l_subs») (now «l_starts») (now «l_slots»)) («l_end» .0)
+        × SideAt (lent n (now starts) (now columns)) upper n k (sideStores (now «u_subs») (now «u_starts») (now «u_slots»)) («u_end» .0) ⌝ }
+    requires { ⌜ WholeAt «l_lies» (lent n (now starts) (now columns)) lower n k row (now «l_growing»)
+        × WholeAt «u_lies» (lent n (now starts) (now columns)) upper n k row (now «u_growing») ⌝ }
+    requires { ⌜ Chained (now «set_heads») (now «set_links») n (after (patternOf (lent n (now starts) (now columns))) (k - 1) .S) ⌝ }
+    ensures { λ r. ⌜ Chained (now («set_heads» .exit)) (now («set_links» .exit)) n (after (patternOf (lent n (now (starts .entry)) (now (columns .entry)))) k .S) ⌝ }
+{
+    if has_further(n, k, row, l_lies, l_slots) {
+        let rho = least_further(
+            n,
+            k,
+            row,
+            u_lies,
+            starts,
+            columns,
+            u_subs,
+            u_starts,
+            u_end,
+            u_growing,
+        );
+        push(set_heads, set_links, rho, k);
+    }
+}

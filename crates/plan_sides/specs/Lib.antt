@@ -1,4 +1,0 @@
--- What the contracts cite.
-pub mod Filled
-pub mod Placing
-pub mod Stepping

@@ -1,7 +1,0 @@
-// One step of planning, in lent stores.
-mod appending;
-mod place;
-mod step;
-
-pub use step::Turned;
-pub use step::plan_step;
