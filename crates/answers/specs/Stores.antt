@@ -21,7 +21,7 @@ planStores lSubs lStarts lSlots uSubs uStarts uSlots =
 abbrev pub lentPlan : PlanCounts → PlanStores → LentPlan
 lentPlan counts stores = record { counts = countsIn counts; stores = stores }
 
--- The work stores: the chains of the rows and of the sets S have n+1 places each, the two stores in which a list grows n.
+-- The work stores: the chains of the rows and of the sets S have n+1 places each, the two stores in which L_k and U_k grow n.
 pub record WorkStores : Type 0 where
   pub rowHeads : List ℕ
   pub rowLinks : List ℕ

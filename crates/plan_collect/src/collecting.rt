@@ -84,7 +84,7 @@ fn collect_grown(
     ))
 }
 
-// L_k. Where one row is met and S_k is the one step k-1, and the row only adds behind the list of k-1, which ends its store, that list is not read: it is left at the store's end.
+// L_k. Where one row is met and S_k is the one step k-1, and the row only adds behind the list of k-1, which ends its store, that list is not copied: it is left at the store's end.
 fn collect_lower(
     joins: bool,
     n: usize,

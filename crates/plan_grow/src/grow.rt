@@ -109,7 +109,7 @@ pub fn from_rows(
     numbers_of(n, k, first, links, growing)
 }
 
-// Report, 2.4: what the lists of the steps in a chain hand on, read out of the side's stores. The first of them, where no row was met, is copied.
+// Report, 2.4: what the lists of the steps in a chain hand on, read out of the side's stores. While nothing has grown, a list is copied.
 pub fn from_steps(
     n: usize,
     k: usize,

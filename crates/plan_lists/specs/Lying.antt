@@ -40,7 +40,7 @@ LiesAs Row p side n k row growing xs = BroughtAlone p side k row xs
 LiesAs (Sole l) p side n k row growing xs = OfSole p side k l xs
 LiesAs (Behind shared from) p side n k row growing xs = AddedBehind p side k row shared from xs
 
--- Both lists of step k, where planning stands as t says, lie where it is said; `read` columns are read.
+-- Both lists of step k without k itself, as they are where planning stands as t says, lie where it is said; the columns up to `read` are read (`countedReads`).
 pub record ListsAt (lists : Lists) (p : Lent) (n k row : ℕ) (t : InStep) (read : ℕ) (lowers uppers : List ℕ) : Type 0 where
   pub lower-size : length lowers ≡ n
   pub upper-size : length uppers ≡ n

@@ -8,9 +8,9 @@ ghost use Rattle.foundation.specs.Plan.{after, afterInitialization};
 ghost use Rattle.plan_gather.specs.Steps.{countedReads};
 ghost use Rattle.plan_lists.specs.Lying.{ListsAt};
 
-// Where the kept list of L_k or U_k lies: at the front of its growing store, so many members long; in the pattern, as what the one row first met brings; in its
-// side's own store, as the list of the sole step in S_k less its first member, which is k; or at the end of that store, as so many members that stand there and what
-// the one row first met brings from a place on.
+// Where the kept list of L_k or U_k lies: at the front of its growing store, so many members long; nowhere but in the pattern, being what the one row first met
+// brings (in L its number, in U its columns) without k; in its side's own store, as the list of the sole step in S_k less its first member, which is k; or at the
+// end of that store, as so many members that stand there and what the one row first met brings from a place on.
 pub enum Lies {
     Grown(usize),
     Row,

@@ -19,7 +19,7 @@ use plan_lists::Lies;
 use store_lists::push;
 
 // Whether L_k has more than one member, that is, its kept list one. One row brings itself; the list of a sole step has k before the members of k's; behind the members that stand at the store's end comes the
-// row itself, or nothing where `from` is 1.
+// row itself, or nothing where `from` is 1: so there is one if `from` is 0, or if any stand there.
 fn has_further(n: usize, k: usize, row: usize, lies: Lies, slots: &[usize]) -> bool
     requires { ⌜ ((p : Lent) × LowerWhole lies p n k row (now slots)) ⌝ }
     ensures { λ r. ⌜ ((p : Lent) → LowerWhole lies p n k row (now (slots .entry)) → r ≡ ltb 0 (length (kept (planOf p) lower k))) ⌝ }

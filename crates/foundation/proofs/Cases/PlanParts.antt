@@ -1,13 +1,13 @@
 -- Planning after each part of a step, and each part by itself.
 use mathlib.Core.Path.{refl}
 use Rattle.foundation.specs.Table.{Holds}
-use Rattle.foundation.specs.Cases.PlanParts.{partCases, knownCases, singlePartCases}
+use Rattle.foundation.specs.Cases.PlanParts.{planPartCases, knownCases, singlePartCases}
 use Rattle.foundation.proofs.Open.Lists.{tables}
 use Rattle.foundation.proofs.Open.Plans.{plans}
 
-pub parts-hold : Holds partCases
-unfolding partCases tables plans
-parts-hold = refl
+pub plan-parts-hold : Holds planPartCases
+unfolding planPartCases tables plans
+plan-parts-hold = refl
 
 pub known-hold : Holds knownCases
 unfolding knownCases tables plans

@@ -74,8 +74,8 @@ asBefore =
     ∷ (5 ∷ 45 ∷ []) ∷ (6 ∷ 46 ∷ []) ∷ (7 ∷ 47 ∷ [])
     ∷ []
 
-unfoldable pub partCases : List Case
-partCases =
+unfoldable pub planPartCases : List Case
+planPartCases =
     -- 2.1: "Set L_k = ∅ and U_k = ∅"; 2.2: "For i ∈ C_k, if mask(i) = 0, then set L_k = L_k ∪ {i} and U_k = U_k ∪ R_i, and set mask(i) = 1"; S_1 is empty, 2.4 passed over. Step 1 meets row 1, and reads C_1 and R_1
     case (partsShown 1)
     ([] ∷ [] ∷ [] ∷ (0 ∷ [])

@@ -72,7 +72,7 @@ RowsObtained =
     × SetsJoined p ((afterRows (patternOf p) k) .known) (k - 1)
     × ListsMade p ((afterRows (patternOf p) k) .known) (k - 1)
 
--- Report, 2.3: "If S_k = ∅, then go to Step (2.5). (Step k is not influenced by any previous steps.)" All is as after 2.2. The test fails just where S_k is empty, and that is where no
+-- Report, 2.3: "If S_k = ∅, then go to Step (2.5). (Step k is not influenced by any previous steps.)" All is as after 2.2. `influenced` is false just where S_k is empty, and that is where no
 -- step before k has more than one member in its L and k as the least further member of its U; then 2.4 is passed over.
 unfoldable pub StepsTested : Type 0
 StepsTested =
