@@ -5,15 +5,16 @@ use Rattle.foundation.specs.Plan.{Planning}
 use Rattle.foundation.specs.PlanCall.{Counts}
 use Rattle.answers.specs.declared.PlanCounts.{PlanCounts}
 use Rattle.answers.specs.declared.Refusal.{Refusal}
-use Rattle.answers.specs.declared.Refusal.the-variants.{Limits, Starts, Column, Order, Diagonal, Stores, LowerRoom, UpperRoom, OtherPlan}
+use Rattle.answers.specs.declared.Refusal.the-variants.{Limits, Height, Starts, Column, Order, Diagonal, Stores, LowerRoom, UpperRoom, OtherPlan}
 use Rattle.answers.specs.declared.PlanAnswer.{PlanAnswer}
 use Rattle.answers.specs.declared.PlanAnswer.the-variants.{Planned, Refused}
 use Rattle.answers.specs.declared.VerifyAnswer.{VerifyAnswer}
 use Rattle.answers.specs.declared.VerifyAnswer.the-variants.{Agrees, Refused as NotVerified}
 
--- Document 01, "Where each refusal is checked": the number and step of each case.
+-- Document 01, "Where each refusal is checked": the number and step of each case; document 02, ticket 9: 25, "after 1".
 unfoldable pub refusalOf {ℓ} : {A : Type ℓ} → Refusal → Answer A
 refusalOf Limits = refused 1 0
+refusalOf Height = refused 25 0
 refusalOf Starts = refused 2 0
 refusalOf Column = refused 3 0
 refusalOf Order = refused 4 0
@@ -24,10 +25,11 @@ refusalOf (UpperRoom k) = refused 8 k
 refusalOf OtherPlan = refused 9 0
 
 -- the counts, one by one
-abbrev pub counted : (n entries lowerSubscripts upperSubscripts lowerSlots upperSlots reads : ℕ) → Counts
-counted n entries lowerSubscripts upperSubscripts lowerSlots upperSlots reads =
+abbrev pub counted : (n height entries lowerSubscripts upperSubscripts lowerSlots upperSlots reads : ℕ) → Counts
+counted n height entries lowerSubscripts upperSubscripts lowerSlots upperSlots reads =
     record {
       n = n;
+      height = height;
       entries = entries;
       lowerSubscripts = lowerSubscripts;
       upperSubscripts = upperSubscripts;
@@ -38,7 +40,7 @@ counted n entries lowerSubscripts upperSubscripts lowerSlots upperSlots reads =
 
 -- the counts of a plan as the code's struct has them
 abbrev pub countsIn : PlanCounts → Counts
-countsIn c = counted (c .n) (c .entries) (c .«l_subscripts») (c .«u_subscripts») (c .«l_slots») (c .«u_slots») (c .reads)
+countsIn c = counted (c .n) (c .height) (c .entries) (c .«l_subscripts») (c .«u_subscripts») (c .«l_slots») (c .«u_slots») (c .reads)
 
 -- what a planning call's answer says
 unfoldable pub answerOf : PlanAnswer → Answer Counts

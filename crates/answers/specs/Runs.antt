@@ -8,7 +8,7 @@ use Rattle.answers.specs.declared.Extent.the-variants.{Whole, Cut}
 use Rattle.answers.specs.declared.PivotChoice.{PivotChoice}
 use Rattle.answers.specs.declared.PivotChoice.the-variants.{Largest, Listed}
 use Rattle.answers.specs.declared.RunReason.{RunReason}
-use Rattle.answers.specs.declared.RunReason.the-variants.{Limits, Starts, Column, Order, Diagonal, Stores, OtherPlan, Lending, Values, RowList, NoPivot, NotFinite}
+use Rattle.answers.specs.declared.RunReason.the-variants.{Limits, Height, Starts, Column, Order, Diagonal, Stores, Tall, OtherPlan, Lending, Values, RowList, NoPivot, NotFinite}
 use Rattle.answers.specs.declared.RunOutcome.{RunOutcome}
 use Rattle.answers.specs.declared.RunOutcome.the-variants.{Finished, Stopped}
 use Rattle.answers.specs.declared.RunAnswer.{RunAnswer}
@@ -23,14 +23,16 @@ unfoldable pub extentOf : Extent → RunExtent
 extentOf Whole = whole
 extentOf (Cut s) = cut s
 
--- Document 01, "Where each refusal is checked": the number of each reason.
+-- Document 01, "Where each refusal is checked": the number of each reason; document 02, ticket 9: 25, "after 1", and 26, "before 9".
 unfoldable pub reasonNumber : RunReason → ℕ
 reasonNumber Limits = 1
+reasonNumber Height = 25
 reasonNumber Starts = 2
 reasonNumber Column = 3
 reasonNumber Order = 4
 reasonNumber Diagonal = 5
 reasonNumber Stores = 6
+reasonNumber Tall = 26
 reasonNumber OtherPlan = 9
 reasonNumber Lending = 10
 reasonNumber Values = 11

@@ -21,7 +21,7 @@ planStores lSubs lStarts lSlots uSubs uStarts uSlots =
 abbrev pub lentPlan : PlanCounts → PlanStores → LentPlan
 lentPlan counts stores = record { counts = countsIn counts; stores = stores }
 
--- The work stores: the chains of the rows and of the sets S have n+1 places each, the two stores in which L_k and U_k grow n.
+-- The work stores: the chains of the rows and of the sets S have one place more than there are rows, the two stores in which L_k and U_k grow a place for each row.
 pub record WorkStores : Type 0 where
   pub rowHeads : List ℕ
   pub rowLinks : List ℕ
@@ -37,8 +37,8 @@ workStores rowHeads rowLinks setHeads setLinks list spare =
 abbrev pub workSizes : WorkStores → WorkSizes
 workSizes work =
     record {
-      ofN = length (work .list) ∷ length (work .spare) ∷ [];
-      ofNPlusOne = length (work .rowHeads) ∷ length (work .rowLinks) ∷ length (work .setHeads) ∷ length (work .setLinks) ∷ [];
+      ofHeight = length (work .list) ∷ length (work .spare) ∷ [];
+      ofHeightPlusOne = length (work .rowHeads) ∷ length (work .rowLinks) ∷ length (work .setHeads) ∷ length (work .setLinks) ∷ [];
       ofEntries = [];
     }
 

@@ -5,11 +5,12 @@ ghost use Rattle.dalumiveth.specs.Calls.{PlanTold};
 use numbers::tell_plan;
 use planning::plan;
 
-// The plan of a pattern (`planning::plan`). Nine numbers: 0, 0 and the seven counts, or the refusal's number and step.
+// The plan of a pattern (`planning::plan`). Ten numbers: 0, 0 and the eight counts, or the refusal's number and step.
 #[no_mangle]
 pub extern "C" fn dalumiveth_plan(
     most: usize,
     n: usize,
+    height: usize,
     starts: &[usize],
     columns: &[usize],
     l_subs: &mut [usize],
@@ -26,7 +27,7 @@ pub extern "C" fn dalumiveth_plan(
     spare: &mut [usize],
     answer: &mut [usize],
 ) -> usize
-    ensures { λ r. ⌜ PlanTold r most (lent n (now (starts .entry)) (now (columns .entry)))
+    ensures { λ r. ⌜ PlanTold r most (lent n height (now (starts .entry)) (now (columns .entry)))
         (planStores (now («l_subs» .entry)) (now («l_starts» .entry)) (now («l_slots» .entry)) (now («u_subs» .entry)) (now («u_starts» .entry)) (now («u_slots» .entry)))
         (planStores (now («l_subs» .exit)) (now («l_starts» .exit)) (now («l_slots» .exit)) (now («u_subs» .exit)) (now («u_starts» .exit)) (now («u_slots» .exit)))
         (workStores (now («row_heads» .entry)) (now («row_links» .entry)) (now («set_heads» .entry)) (now («set_links» .entry)) (now (list .entry)) (now (spare .entry)))
@@ -36,6 +37,7 @@ pub extern "C" fn dalumiveth_plan(
     let answered = plan(
         most,
         n,
+        height,
         starts,
         columns,
         l_subs,

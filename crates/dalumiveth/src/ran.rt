@@ -18,6 +18,7 @@ use numbers::tell_run;
 pub extern "C" fn dalumiveth_run(
     most: usize,
     n: usize,
+    height: usize,
     starts: &[usize],
     columns: &[usize],
     counts: &[usize],
@@ -48,7 +49,7 @@ pub extern "C" fn dalumiveth_run(
     dense: &mut [f64],
     answer: &mut [usize],
 ) -> usize
-    ensures { λ r. ⌜ RunTold r most (lent n (now (starts .entry)) (now (columns .entry)))
+    ensures { λ r. ⌜ RunTold r most (lent n height (now (starts .entry)) (now (columns .entry)))
         (lentFrom (now (counts .entry)) (planStores (now («l_subs» .entry)) (now («l_starts» .entry)) (now («l_slots» .entry)) (now («u_subs» .entry)) (now («u_starts» .entry)) (now («u_slots» .entry))))
         (chosenBy (choiceFrom «by_list») (now (rows .entry))) (extentFrom cut steps) (lendingOf (now (values .entry)) (now (right .entry)) (now (l .entry)) (now (u .entry)) (now (d .entry)) (now (x .entry)) (now (pivots .entry)))
         (runStores (now (l .exit)) (now (u .exit)) (now (d .exit)) (now (x .exit)) (now (pivots .exit)))
@@ -62,6 +63,7 @@ pub extern "C" fn dalumiveth_run(
     let answered = run(
         most,
         n,
+        height,
         starts,
         columns,
         plan_counts,

@@ -11,6 +11,7 @@ use planning::verify;
 pub extern "C" fn dalumiveth_verify(
     most: usize,
     n: usize,
+    height: usize,
     starts: &[usize],
     columns: &[usize],
     counts: &[usize],
@@ -28,7 +29,7 @@ pub extern "C" fn dalumiveth_verify(
     spare: &mut [usize],
     answer: &mut [usize],
 ) -> usize
-    ensures { λ r. ⌜ VerifyTold r most (lent n (now (starts .entry)) (now (columns .entry)))
+    ensures { λ r. ⌜ VerifyTold r most (lent n height (now (starts .entry)) (now (columns .entry)))
         (lentFrom (now (counts .entry)) (planStores (now («l_subs» .entry)) (now («l_starts» .entry)) (now («l_slots» .entry)) (now («u_subs» .entry)) (now («u_starts» .entry)) (now («u_slots» .entry))))
         (workStores (now («row_heads» .entry)) (now («row_links» .entry)) (now («set_heads» .entry)) (now («set_links» .entry)) (now (list .entry)) (now (spare .entry)))
         (workStores (now («row_heads» .exit)) (now («row_links» .exit)) (now («set_heads» .exit)) (now («set_links» .exit)) (now (list .exit)) (now (spare .exit)))
@@ -38,6 +39,7 @@ pub extern "C" fn dalumiveth_verify(
     let answered = verify(
         most,
         n,
+        height,
         starts,
         columns,
         plan_counts,

@@ -24,12 +24,12 @@ abbrev pub runWork : (rowHeads rowLinks setHeads setLinks list spare : List ℕ)
 runWork rowHeads rowLinks setHeads setLinks list spare copy dense =
     record { planning = workStores rowHeads rowLinks setHeads setLinks list spare; copy = copy; dense = dense }
 
--- Planning's chains have n+1 places and its two growing lists n; the copy of a list's numbers has n, the same numbers laid out by their subscripts n+1.
+-- Planning's chains have one place more than there are rows, its two growing lists one for each row; the copy of a list's numbers has one for each row, the same numbers laid out by their subscripts one more.
 abbrev pub runWorkSizes : RunWork → WorkSizes
 runWorkSizes work =
     record {
-      ofN = length (work .planning .list) ∷ length (work .planning .spare) ∷ length (work .copy) ∷ [];
-      ofNPlusOne =
+      ofHeight = length (work .planning .list) ∷ length (work .planning .spare) ∷ length (work .copy) ∷ [];
+      ofHeightPlusOne =
           length (work .planning .rowHeads) ∷ length (work .planning .rowLinks) ∷ length (work .planning .setHeads) ∷ length (work .planning .setLinks)
           ∷ length (work .dense) ∷ [];
       ofEntries = [];

@@ -13,11 +13,13 @@ use answers::RunAnswer;
 use planning::verify;
 use run_call::run_verified;
 
-// A run. Its pivot rows are chosen by the largest entry, and `rows` is not read, or by the list `rows`, p_k at place k-1. Result stores: the slots of L and U
-// (no fewer than planned), the diagonal, the solution and the pivot rows (n places each). Work stores: planning's six, `copy` of n places, `dense` of n+1.
+// A run. Its pivot rows are chosen by the largest entry, and `rows` is not read, or by the list `rows`, p_k at place k-1; a pattern with more rows than n is run only when cut. Result
+// stores: the slots of L and U (no fewer than planned), the diagonal and the pivot rows (n places each), the solution (a place for each row). Work stores: planning's six, `copy` with a
+// place for each row, `dense` with one more.
 pub fn run(
     most: usize,
     n: usize,
+    height: usize,
     starts: &[usize],
     columns: &[usize],
     counts: PlanCounts,
@@ -46,7 +48,7 @@ pub fn run(
     copy: &mut [f64],
     dense: &mut [f64],
 ) -> RunAnswer
-    ensures { λ r. ⌜ RunKept r most (lent n (now (starts .entry)) (now (columns .entry)))
+    ensures { λ r. ⌜ RunKept r most (lent n height (now (starts .entry)) (now (columns .entry)))
         (lentPlan counts (planStores (now («l_subs» .entry)) (now («l_starts» .entry)) (now («l_slots» .entry)) (now («u_subs» .entry)) (now («u_starts» .entry)) (now («u_slots» .entry))))
         (chosenBy choice (now (rows .entry))) (extentOf extent) (lendingOf (now (values .entry)) (now (right .entry)) (now (l .entry)) (now (u .entry)) (now (d .entry)) (now (x .entry)) (now (pivots .entry)))
         (runStores (now (l .exit)) (now (u .exit)) (now (d .exit)) (now (x .exit)) (now (pivots .exit)))
@@ -56,6 +58,7 @@ pub fn run(
     let verified = verify(
         most,
         n,
+        height,
         starts,
         columns,
         counts,
@@ -75,6 +78,7 @@ pub fn run(
     run_verified(
         verified,
         n,
+        height,
         starts,
         columns,
         counts,

@@ -13,7 +13,7 @@ use Rattle.foundation.specs.Answer.{Answer, refused, granted, refuseIf, 
 use Rattle.foundation.specs.Claims.{PlanAccepted}
 use Rattle.foundation.specs.Pattern.{Lent, Pattern, patternOf, patternFault, judged}
 use Rattle.foundation.specs.Plan.{Planning, Side, lower, upper, plan}
-use Rattle.foundation.specs.PlanCall.{Counts, SideStores, PlanStores, WorkSizes, subscripts, countsOf, startsSized, workFits, sizesFit, planned, subscriptsAfter, startsAfter, slotStartsAfter, sideAfter, planLeaves, sameCounts, sameSide, agrees, held}
+use Rattle.foundation.specs.PlanCall.{Counts, SideStores, PlanStores, WorkSizes, subscripts, countsOf, startsSized, workFits, sizesFit, planned, subscriptsAfter, startsAfter, slotStartsAfter, sideAfter, planLeaves, sameCounts, sameSide, agrees, heldIf, held}
 use Rattle.foundation.specs.Slots.{slotStarts}
 use Rattle.foundation.specs.Subscripts.{shared, startsStore, roomFault}
 use Rattle.foundation.proofs.Alike.{judged-passes}
@@ -24,7 +24,7 @@ use Rattle.foundation.proofs.Starts.{length-starts, length-slot-starts}
 counts-same : (c : Counts) → sameCounts c c ≡ true
 unfolding sameCounts
 counts-same c =
-    rw (eq-eqb (c .n) (c .n) refl, eq-eqb (c .entries) (c .entries) refl, eq-eqb (c .lowerSubscripts) (c .lowerSubscripts) refl, eq-eqb (c .upperSubscripts) (c .upperSubscripts) refl, eq-eqb (c .lowerSlots) (c .lowerSlots) refl, eq-eqb (c .upperSlots) (c .upperSlots) refl, eq-eqb (c .reads) (c .reads) refl)
+    rw (eq-eqb (c .n) (c .n) refl, eq-eqb (c .height) (c .height) refl, eq-eqb (c .entries) (c .entries) refl, eq-eqb (c .lowerSubscripts) (c .lowerSubscripts) refl, eq-eqb (c .upperSubscripts) (c .upperSubscripts) refl, eq-eqb (c .lowerSlots) (c .lowerSlots) refl, eq-eqb (c .upperSlots) (c .upperSlots) refl, eq-eqb (c .reads) (c .reads) refl)
 
 module _ (p : Lent) (s : Planning) (side : Side) (before : SideStores) (sized : startsSized p before ≡ true) where
   starts-long : length (before .starts) ≡ p .n
@@ -75,7 +75,7 @@ granted-asked most p stores work s e =
 
 -- 9 never meets a plan just made.
 pub plan-accepted : PlanAccepted
-unfolding PlanAccepted held andThen refuseIf sizesFit agrees planLeaves
+unfolding PlanAccepted held heldIf andThen refuseIf sizesFit agrees planLeaves
 plan-accepted most p stores work later s e fits =
     let a = granted-asked most p stores work s e in
     let lows : startsSized p (stores .lowerSide) ≡ true = and-left (startsSized p (stores .lowerSide)) _ (a .sized) in

@@ -20,9 +20,9 @@ use Rattle.foundation.specs.Facts.{Plannable, PlanFacts}
 use Rattle.foundation.specs.Numbers.{plusZero, mayPivot}
 use Rattle.foundation.specs.Pattern.{Lent, Pattern, patternOf, patternFault, judged}
 use Rattle.foundation.specs.Plan.{Planning, Side, lower, upper, plan}
-use Rattle.foundation.specs.PlanCall.{LentPlan, WorkSizes, sizesFit, agrees, held}
+use Rattle.foundation.specs.PlanCall.{LentPlan, WorkSizes, sizesFit, agrees, heldIf, held}
 use Rattle.foundation.specs.Reference.{Choice, listed, Extent, stepsOf, Going, Course, going, stopped, numberOf, pivotRow, running, starting, stepped, reference}
-use Rattle.foundation.specs.RunCall.{Lending, lendingFits, allFinite, choiceFits, extentFits, orderFits, valueAt, rightAt, Ran, courseAnswer, ranWith, ran, runAnswer, slotsAfter, diagonalAfter, solutionAfter, pivotsAfter, runLeaves}
+use Rattle.foundation.specs.RunCall.{Lending, lendingFits, allFinite, choiceFits, extentFits, orderFits, mayRun, valueAt, rightAt, Ran, courseAnswer, ranWith, ran, runAnswer, slotsAfter, diagonalAfter, solutionAfter, pivotsAfter, runLeaves}
 use Rattle.foundation.specs.Shown.{shown, shownDiagonal, slotRead, laid}
 use Rattle.foundation.specs.Slots.{Slot, none, onDiagonal, inSide, slotAt, hasSlot, slotsOf}
 use Rattle.foundation.specs.Square.{Square}
@@ -40,18 +40,18 @@ judged-passes most p ok = rw ok
 pub held-passes :
     (most : ℕ) (p : Lent) (q : LentPlan) (work : WorkSizes) → patternFault most p ≡ 0 → sizesFit p (q .stores) work ≡ true
     → agrees p (plan (patternOf p)) q ≡ true → held most p q work ≡ granted (plan (patternOf p))
-unfolding held andThen refuseIf
+unfolding held heldIf andThen refuseIf
 held-passes most p q work ok sizes same = rw (judged-passes most p ok, sizes, same)
 
 -- what passes 1 to 12 answers as the full square does
 pub ran-passes :
     (most : ℕ) (p : Lent) (q : LentPlan) (work : WorkSizes) (choice : Choice) (extent : Extent) (w : Lending) → patternFault most p ≡ 0
-    → sizesFit p (q .stores) work ≡ true → agrees p (plan (patternOf p)) q ≡ true → lendingFits p (plan (patternOf p)) w ≡ true
+    → sizesFit p (q .stores) work ≡ true → mayRun p extent ≡ true → agrees p (plan (patternOf p)) q ≡ true → lendingFits p (plan (patternOf p)) w ≡ true
     → allFinite w ≡ true → orderFits (patternOf p) choice extent ≡ true
     → ran most p q work choice extent w
     ≡ courseAnswer (plan (patternOf p)) (reference choice extent (patternOf p) (valueAt p (w .values)) (rightAt (w .right)))
-unfolding ran ranWith andThen refuseIf
-ran-passes most p q work choice extent w ok sizes same fits sound order = rw (held-passes most p q work ok sizes same, fits, sound, order)
+unfolding ran heldIf ranWith andThen refuseIf
+ran-passes most p q work choice extent w ok sizes may same fits sound order = rw (judged-passes most p ok, sizes, may, same, fits, sound, order)
 
 -- ---- the stores
 
@@ -102,27 +102,27 @@ module _
         record {
           finished = refl;
           places = λ i j b. laid-padded (plan (patternOf p)) (w .lowerSlots) (w .upperSlots) (w .diagonal) _ _ _ i j
-              ∙ laid-back (plan (patternOf p)) (p .n) (g .square) outside i j (b .0) (b .1) (b .2) (b .3);
+              ∙ laid-back (plan (patternOf p)) (p .n) (g .square) outside i j (b .0) (b .2) (b .3);
           outside = outside;
-          solution = rw (sizes .0) (full (map (g .right) (upto (p .n))) (length-map (upto (p .n)) (g .right) ∙ length-upto (p .n)));
+          solution = rw (sizes .0) (full (map (g .right) (upto (p .height))) (length-map (upto (p .height)) (g .right) ∙ length-upto (p .height)));
           pivots = rw (sizes .1);
         }
       where
-        full : (xs : List Float) → length xs ≡ p .n → padded plusZero (p .n) xs ≡ xs
+        full : (xs : List Float) → length xs ≡ p .height → padded plusZero (p .height) xs ≡ xs
         full xs h = rw (← h) (padded-full plusZero xs)
 
-        sizes : (w .solution ≡ p .n) × (w .pivots ≡ p .n)
+        sizes : (w .solution ≡ p .height) × (w .pivots ≡ p .n)
         sizes =
             let a = and-right (eqb (length (w .values)) (length (p .columns))) _ fits in
-            let b = and-right (eqb (length (w .right)) (p .n)) _ a in
-            let c = and-right (eqb (w .solution) (p .n)) _ b in
-            (eqb-true _ _ (and-left (eqb (w .solution) (p .n)) _ b), eqb-true _ _ (and-left (eqb (w .pivots) (p .n)) _ c))
+            let b = and-right (eqb (length (w .right)) (p .height)) _ a in
+            let c = and-right (eqb (w .solution) (p .height)) _ b in
+            (eqb-true _ _ (and-left (eqb (w .solution) (p .height)) _ b), eqb-true _ _ (and-left (eqb (w .pivots) (p .n)) _ c))
 
     -- Demand 3, second half.
     pub runs-alike-from : RunsAlike
     unfolding RunsAlike RunIs courseAnswer runAnswer andThen
-    runs-alike-from most p q work choice extent w ok sizes same fits sound order =
-        rw (ran-passes most p q work choice extent w ok sizes same fits sound order)
+    runs-alike-from most p q work choice extent w ok sizes may same fits sound order =
+        rw (ran-passes most p q work choice extent w ok sizes may same fits sound order)
         (at (reference choice extent (patternOf p) (valueAt p (w .values)) (rightAt (w .right))) refl)
       where
         at : (c : Course) → reference choice extent (patternOf p) (valueAt p (w .values)) (rightAt (w .right)) ≡ c → RunIs p w c (courseAnswer (plan (patternOf p)) c)

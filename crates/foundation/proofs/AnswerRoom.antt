@@ -12,9 +12,9 @@ use Rattle.lists.specs.Sets.{member, indexOf}
 use Rattle.lists.proofs.Members.{by-test, and-left}
 use Rattle.lists.proofs.Places.{index-at, index-below}
 use Rattle.foundation.specs.Answer.{Answer, refused, granted, refuseIf, andThen}
-use Rattle.foundation.specs.Claims.{AnswerRoom, JobRoom, SlotsEnough}
+use Rattle.foundation.specs.Claims.{AnswerRoom, JobRoom, twiceEnough, SlotsEnough}
 use Rattle.foundation.specs.Job.{Job, reading, readJob, nothingRead, maxJobBytes}
-use Rattle.foundation.specs.Pattern.{Lent, patternOf, maxEntries, patternFault, judged}
+use Rattle.foundation.specs.Pattern.{Lent, patternOf, maxEntries, maxHeight, patternFault, judged}
 use Rattle.foundation.specs.Plan.{Planning, Side, lower, upper, plan}
 use Rattle.foundation.specs.PlanCall.{subscripts}
 use Rattle.foundation.specs.Printing.{answerText, jobText, jobRun, printed}
@@ -26,7 +26,7 @@ use Rattle.foundation.specs.Subscripts.{short, roomFault}
 use Rattle.foundation.proofs.Enough.{slots-enough-from, subscripts-few}
 use Rattle.foundation.proofs.FloatRun.{pivots-length, pivots-in-range, reference-keeps}
 use Rattle.foundation.proofs.JobRoom.{job-room}
-use Rattle.foundation.proofs.Passing.{passes-small, passes-plannable, passes-entries}
+use Rattle.foundation.proofs.Passing.{passes-small, passes-height, passes-plannable, passes-entries}
 use Rattle.foundation.proofs.PlanFacts.{plan-facts}
 use Rattle.foundation.proofs.ReadsBound.{reads-within, sizes-within}
 use Rattle.foundation.proofs.PrintedLengths.{word, refused-few, Small, report-few}
@@ -45,13 +45,24 @@ module _ (p : Lent) (passes : patternFault 128 p ≡ 0) where
   few : p .n ≤ 128
   few = passes-small 128 p passes .1
 
+  rows-few : p .height ≤ 2048
+  unfolding maxHeight
+  rows-few = passes-height 128 p passes .1
+
   -- the counts of a plan
   slots-small : (side : Side) → slotsOf (plan (patternOf p)) side (p .n) < word
-  unfolding SlotsEnough
-  slots-small side =
-      let less : p .n - 1 ≤ 128 = omega (arith, few) in
-      let square : p .n * (p .n - 1) ≤ 128 * 128 = mul-le-mul few less in
-      omega (arith, square, slots-enough-from plan-facts passes-plannable 128 p passes side)
+  unfolding SlotsEnough twiceEnough
+  slots-small side = omega (arith, enough-small side, slots-enough-from plan-facts passes-plannable 128 p passes side)
+    where
+      square : p .n * (p .n - 1) ≤ 128 * 128
+      square = let less : p .n - 1 ≤ 128 = omega (arith, few) in mul-le-mul few less
+
+      below : p .n * (p .height - p .n) ≤ 128 * 2048
+      below = let less : p .height - p .n ≤ 2048 = omega (arith, rows-few) in mul-le-mul few less
+
+      enough-small : (side : Side) → twiceEnough p side ≤ 1000000
+      enough-small lower = omega (arith, square, below)
+      enough-small upper = omega (arith, square)
 
   subscripts-small : (side : Side) → length (subscripts (plan (patternOf p)) side (p .n)) < word
   unfolding subscripts
@@ -60,8 +71,8 @@ module _ (p : Lent) (passes : patternFault 128 p ≡ 0) where
   reads-small : (plan (patternOf p)) .reads < word
   unfolding plan patternOf maxEntries
   reads-small =
-      let twice : p .n + p .n ≤ 256 = omega (arith, few) in
-      let sizes : p .n * (p .n + p .n) ≤ 128 * 256 = mul-le-mul few twice in
+      let both : p .height + p .n ≤ 2176 = omega (arith, few, rows-few) in
+      let sizes : p .n * (p .height + p .n) ≤ 128 * 2176 = mul-le-mul few both in
       omega (
         arith,
         sizes,
@@ -87,9 +98,9 @@ module _ (p : Lent) (passes : patternFault 128 p ≡ 0) where
         rows = λ x m.
             let there : member x (was .pivots) ≡ true = rw (same .pivots) at m in
             let place = pivots-in-range (patternOf p) choice fits values right (p .n) was (omega arith) from (indexOf x (was .pivots)) (rw long at (index-below x (was .pivots) there)) in
-            let high : x ≤ p .n = rw (index-at x (was .pivots) there) at (place .1) in
-            omega (arith, few, high);
-        updates = rw (same .updates) (omega (arith, few, run-few (patternOf p) choice values right few few (p .n) was from, mul-le-mul few (le-refl 16384)));
+            let high : x ≤ p .height = rw (index-at x (was .pivots) there) at (place .1) in
+            omega (arith, rows-few, high);
+        updates = rw (same .updates) (omega (arith, few, run-few (patternOf p) choice values right rows-few few (p .n) was from, mul-le-mul few (le-refl 262144)));
       }
 
   -- the answer to a run on the plan

@@ -151,14 +151,14 @@ none-no-slot s i j e = at (slot-case s i j)
 -- A square that is +0 outside the slots is what its slots show, laid back.
 pub laid-back :
     (s : Planning) (n : ℕ) (square : Square Float) → ((i j : ℕ) → hasSlot s i j ≡ false → square i j ≡ plusZero) → (i j : ℕ)
-    → 1 ≤ i → i ≤ n → 1 ≤ j → j ≤ n
+    → 1 ≤ i → 1 ≤ j → j ≤ n
     → laid s (shown s lower n square) (shown s upper n square) (shownDiagonal n square) i j ≡ square i j
 unfolding laid slotRead atSide
-laid-back s n square outside i j i-low i-high j-low j-high = at (slot-case s i j)
+laid-back s n square outside i j i-low j-low j-high = at (slot-case s i j)
   where
     at : SlotCase s i j → laid s (shown s lower n square) (shown s upper n square) (shownDiagonal n square) i j ≡ square i j
-    at (diagonal-slot e w) = rw w (diagonal-reads n square i i-low i-high ∙ ap (square i) e)
-    at (upper-slot h m w) = rw w (shown-reads s upper n square i j i-low i-high m)
+    at (diagonal-slot e w) = rw w (diagonal-reads n square i i-low (omega arith) ∙ ap (square i) e)
+    at (upper-slot h m w) = rw w (shown-reads s upper n square i j i-low (omega arith) m)
     at (lower-slot h m w) = rw w (shown-reads s lower n square j i j-low j-high m)
     at (no-slot without w) = rw w (sym (outside i j without))
 
@@ -167,4 +167,4 @@ pub laid-back-from :
     ((p : Pattern) → Plannable p → PlanFacts p (plan p)) → ((most : ℕ) (p : Lent) → patternFault most p ≡ 0 → Plannable (patternOf p)) → LaidBack
 unfolding LaidBack ZeroOutside
 laid-back-from facts passes most p ok choice extent order values right g e i j (i-low, i-high, j-low, j-high) =
-    laid-back (plan (patternOf p)) (p .n) (g .square) (zero-outside-from facts passes most p ok choice extent order values right g e) i j i-low i-high j-low j-high
+    laid-back (plan (patternOf p)) (p .n) (g .square) (zero-outside-from facts passes most p ok choice extent order values right g e) i j i-low j-low j-high

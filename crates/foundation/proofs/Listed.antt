@@ -132,7 +132,7 @@ module _ (p : Pattern) (ok : Plannable p) (m : ℕ) (small : m ≤ p .n) where
   unfolding list
   handed-on side k x many low high h e =
       let done = list-done p m side k x e in
-      list-step p m side (leastAbove k (after p m .U k)) k x low high (joins p m k (done .0) (done .1) many) e
+      list-step p m side (leastAbove k (after p m .U k)) k x low high (joins p m k (done .0) (done .1) many low) e
       (further-above side k x e h (omega arith))
 
   -- ---- k is in L_k and U_k

@@ -10,7 +10,7 @@ use borrow.Author.Tests.{ne-eqb, eqb-true, eqb-false, lt-ltb, le-ltb, leb-true, 
 use Rattle.lists.specs.Sets.{member}
 use Rattle.lists.proofs.Members.{by-test}
 use Rattle.lists.proofs.Small.{less-one}
-use Rattle.foundation.specs.Pattern.{Lent, lent, rowOf}
+use Rattle.foundation.specs.Pattern.{Lent, lent, lentSquare, rowOf}
 use Rattle.foundation.specs.Numbers.{plusZero}
 use Rattle.foundation.specs.Draw.{mixed, drawn, drawnValue}
 use Rattle.foundation.specs.Load.{presentBy, askedState, withRow, nextRow, rowsUpTo, loadOf}
@@ -34,7 +34,7 @@ next-test a b = by-test (leb a b) (λ e. lt-ltb a (suc b) (omega (arith, leb-tru
 module _ (seed n d k l : ℕ) (small : seed < 2 ^ 32) (row-in : k < n) (column-in : l < n) where
   -- the pattern, the state before row k + 1, and the row before column l + 1
   abbrev pattern : Lent
-  pattern = lent n ((soFar seed n d n) .starts) ((soFar seed n d n) .columns)
+  pattern = lentSquare n ((soFar seed n d n) .starts) ((soFar seed n d n) .columns)
 
   abbrev first : ℕ
   first = (soFar seed n d k) .state

@@ -10,7 +10,7 @@ use borrow.Author.Tests.{eqb-true, eqb-false, eq-eqb, ne-eqb, lt-ltb, le-leb, le
 use Rattle.lists.specs.Sets.{member}
 use Rattle.lists.proofs.Members.{by-test, and-left, and-right, member-snoc, member-snoc-other}
 use Rattle.lists.proofs.Small.{short-of}
-use Rattle.foundation.specs.Pattern.{Lent, lent, maxN, maxEntries, rowOf, tooLarge, notFalling, startsFit, entriesFault, firstFault, rowFault, rowsFault, patternFault}
+use Rattle.foundation.specs.Pattern.{Lent, lent, lentSquare, maxN, maxEntries, maxHeight, rowOf, tooLarge, heightFits, notFalling, startsFit, entriesFault, firstFault, rowFault, rowsFault, patternFault}
 use Rattle.foundation.specs.Load.{DrawnRow, entered, asked, rowUpTo, withRow, nextRow, rowsUpTo}
 use Rattle.foundation.proofs.LoadRows.{by-place, absent-off, soFar, rowAfter, load-grows, starts-many}
 use Rattle.foundation.proofs.LoadPlaces.{starts-at, rows-at}
@@ -123,20 +123,20 @@ module _ (seed n d : ℕ) where
   columns = (soFar seed n d n) .columns
 
   -- row k + 1 of the pattern is the load's
-  pub row-is : (k : ℕ) → k < n → rowOf (lent n starts columns) (suc k) ≡ (rowAfter seed n d k) .columns
+  pub row-is : (k : ℕ) → k < n → rowOf (lentSquare n starts columns) (suc k) ≡ (rowAfter seed n d k) .columns
   unfolding rowOf lent
   row-is k h = rw (starts-at seed n d n k (omega arith), starts-at seed n d n (suc k) h) (rows-at seed n d n k h)
 
-  row-faultless : (k : ℕ) → 1 ≤ k → k < 1 + n → rowFault (lent n starts columns) k ≡ 0
+  row-faultless : (k : ℕ) → 1 ≤ k → k < 1 + n → rowFault (lentSquare n starts columns) k ≡ 0
   unfolding rowFault lent
   row-faultless zero low high = absurd (omega arith)
-  row-faultless (suc k) low high = rw (row-is k (omega arith)) (row-fine d n (suc k) ((soFar seed n d k) .state) low (omega arith))
+  row-faultless (suc k) low high = rw (row-is k (omega arith), le-ltb n (suc k) (omega arith)) (row-fine d n (suc k) ((soFar seed n d k) .state) low (omega arith))
 
   first-start : getD starts 0 0 ≡ 0
   unfolding rowsUpTo
   first-start = starts-at seed n d n 0 (omega arith)
 
-  fits-starts : startsFit (lent n starts columns) ≡ true
+  fits-starts : startsFit (lentSquare n starts columns) ≡ true
   unfolding startsFit lent
   fits-starts =
       let many : length starts ≡ suc n = omega (arith, starts-many seed n d n) in
@@ -147,13 +147,17 @@ module _ (seed n d : ℕ) where
         eq-eqb (getD starts n 0) (length columns) (starts-at seed n d n n (omega arith)),
       )
 
-  small-enough : (most : ℕ) → 1 ≤ n → n ≤ 1024 → n ≤ most → length columns ≤ 16384 → tooLarge most (lent n starts columns) ≡ false
+  small-enough : (most : ℕ) → 1 ≤ n → n ≤ 1024 → n ≤ most → length columns ≤ 16384 → tooLarge most (lentSquare n starts columns) ≡ false
   unfolding tooLarge lent maxN maxEntries
   small-enough most low high fits few =
       let some : n ≡ 0 → ⊥ = λ e. omega (arith, e) in
       let bound : n ≤ min most 1024 = omega arith in
       rw (ne-eqb n 0 some, le-ltb (min most 1024) n bound, le-ltb 16384 (length columns) few)
 
-  pub passes : (most : ℕ) → 1 ≤ n → n ≤ 1024 → n ≤ most → length columns ≤ 16384 → patternFault most (lent n starts columns) ≡ 0
+  fits-height : n ≤ 1024 → heightFits (lentSquare n starts columns) ≡ true
+  unfolding heightFits lent maxHeight
+  fits-height high = rw (le-leb n n (omega arith), le-leb n 2048 (omega arith))
+
+  pub passes : (most : ℕ) → 1 ≤ n → n ≤ 1024 → n ≤ most → length columns ≤ 16384 → patternFault most (lentSquare n starts columns) ≡ 0
   unfolding patternFault lent
-  passes most low high fits few = rw (small-enough most low high fits few, fits-starts) (rows-faultless (lent n starts columns) 1 n row-faultless)
+  passes most low high fits few = rw (small-enough most low high fits few, fits-height high, fits-starts) (rows-faultless (lentSquare n starts columns) 1 n row-faultless)

@@ -82,10 +82,10 @@ side-within s side n (suc t) x low high m =
 
 pub slots-within : SlotsWithin
 unfolding SlotsWithin slotWithin
-slots-within s n i j (i-low, i-high, j-low, j-high) has = at (slot-case s i j)
+slots-within s n i j (i-low, j-low, j-high) has = at (slot-case s i j)
   where
     at : SlotCase s i j → slotWithin s n (slotAt s i j) ≡ true
     at (diagonal-slot e w) = rw w (lt-ltb (i - 1) n (omega arith))
-    at (upper-slot h m w) = rw w (lt-ltb _ _ (side-within s upper n i j i-low i-high m))
+    at (upper-slot h m w) = rw w (lt-ltb _ _ (side-within s upper n i j i-low (omega arith) m))
     at (lower-slot h m w) = rw w (lt-ltb _ _ (side-within s lower n j i j-low j-high m))
     at (no-slot without w) = absurd (false≢true (sym without ∙ has))

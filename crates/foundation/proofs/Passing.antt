@@ -1,19 +1,19 @@
--- What a pattern that passes the judgement 1 to 5 is known to be, and that no fault has a number above 5.
+-- What a pattern that passes the judgement 1 to 5 is known to be, and which numbers a fault may have.
 use mathlib.Core.Bool.{Bool, true, false, cond, _&&_, _||_, true≢false}
 use mathlib.Core.List.{List, [], _∷_}
-use mathlib.Core.Logic.{⊎-elim}
+use mathlib.Core.Logic.{_⊎_, inl, inr, ⊎-elim}
 use mathlib.Core.Path.{_≡_, refl, sym, ap, _∙_}
 use Prim.Native.Nat.{ℕ, zero, suc, _+_, _-_, _≤_, _<_, min}
 use native.Mathlib.Omega.{arith}
 use lib.Dec.{eqb, ltb, leb}
 use lib.ListN.{length, getD}
 use lib.Seq.{length-slice}
-use borrow.Author.Tests.{eqb-true, eqb-false, ltb-true, ltb-false, leb-true}
+use borrow.Author.Tests.{eqb-true, eqb-false, ltb-true, ltb-false, leb-true, le-ltb}
 use Rattle.lists.specs.Functions.{total}
 use Rattle.lists.specs.Sets.{member, Ascending, upto, run}
 use Rattle.lists.proofs.Members.{by-test, and-left, and-right, member-cases, not-member-nil}
 use Rattle.lists.proofs.Places.{upto-snoc, total-append}
-use Rattle.foundation.specs.Pattern.{Lent, rowOf, patternOf, maxN, maxEntries, tooLarge, notFalling, startsFit, entriesFault, firstFault, rowFault, rowsFault, patternFault}
+use Rattle.foundation.specs.Pattern.{Lent, rowOf, patternOf, maxN, maxEntries, maxHeight, tooLarge, heightFits, notFalling, startsFit, entriesFault, firstFault, rowFault, rowsFault, patternFault}
 use Rattle.foundation.specs.Facts.{Plannable, entriesOf}
 
 -- ---- faults
@@ -56,16 +56,23 @@ rows-pass p i (suc left) e j low high =
     (λ q. rows-pass p (suc i) left later j (omega (arith, eqb-false i j q)) (omega arith))
 
 module _ (most : ℕ) (p : Lent) (passes : patternFault most p ≡ 0) where
-  parts : (tooLarge most p ≡ false) × (startsFit p ≡ true) × (rowsFault p 1 (p .n) ≡ 0)
+  parts : (tooLarge most p ≡ false) × (heightFits p ≡ true) × (startsFit p ≡ true) × (rowsFault p 1 (p .height) ≡ 0)
   unfolding patternFault
   parts =
       let (small, e) = fault-then (tooLarge most p) 0 _ passes in
-      let (fit, rows) = fault-else (startsFit p) _ 1 e in
-      (small, fit, rows)
+      let (tall, e′) = fault-else (heightFits p) _ 24 e in
+      let (fit, rows) = fault-else (startsFit p) _ 1 e′ in
+      (small, tall, fit, rows)
 
   -- A pattern that passes has starts that fit.
   pub passes-starts : startsFit p ≡ true
-  passes-starts = parts .1
+  passes-starts = parts .2
+
+  -- A pattern that passes has as many rows as columns, or more, and no more than 2,048.
+  pub passes-height : (p .n ≤ p .height) × (p .height ≤ maxHeight)
+  unfolding heightFits
+  passes-height =
+      (leb-true _ _ (and-left (leb (p .n) (p .height)) (leb (p .height) maxHeight) (parts .1)), leb-true _ _ (and-right (leb (p .n) (p .height)) (leb (p .height) maxHeight) (parts .1)))
 
   -- A pattern that passes has a size from 1 to the largest, at most 1,024, and no more than 16,384 entries.
   pub passes-small : (1 ≤ p .n) × (p .n ≤ most) × (p .n ≤ maxN) × (length (p .columns) ≤ maxEntries)
@@ -76,11 +83,11 @@ module _ (most : ℕ) (p : Lent) (passes : patternFault most p ≡ 0) where
       let few : p .n ≤ min most 1024 = ltb-false (min most 1024) (p .n) low in
       (omega (arith, eqb-false (p .n) 0 some), omega arith, omega arith, ltb-false maxEntries (length (p .columns)) high)
 
-  row-passes : (i : ℕ) → 1 ≤ i → i ≤ p .n → (entriesFault (p .n) 0 (rowOf p i) ≡ 0) × (member i (rowOf p i) ≡ true)
+  row-passes : (i : ℕ) → 1 ≤ i → i ≤ p .height → (entriesFault (p .n) 0 (rowOf p i) ≡ 0) × (ltb (p .n) i || member i (rowOf p i) ≡ true)
   unfolding rowFault
   row-passes i low high =
-      let (entries, own) = no-fault _ _ (rows-pass p 1 (p .n) (parts .2) i low (omega arith)) in
-      (entries, fault-else (member i (rowOf p i)) 0 4 own .0)
+      let (entries, own) = no-fault _ _ (rows-pass p 1 (p .height) (parts .3) i low (omega arith)) in
+      (entries, fault-else (ltb (p .n) i || member i (rowOf p i)) 0 4 own .0)
 
   -- A pattern that passes can be planned.
   pub passes-plannable : Plannable (patternOf p)
@@ -88,11 +95,11 @@ module _ (most : ℕ) (p : Lent) (passes : patternFault most p ≡ 0) where
   passes-plannable = record {
     ascending = λ i low high. entries-pass (p .n) 0 (rowOf p i) (row-passes i low high .0) .0;
     bounded = λ i j low high. entries-pass (p .n) 0 (rowOf p i) (row-passes i low high .0) .1 j;
-    diagonal = λ i low high. row-passes i low high .1;
-    tall = omega arith;
+    diagonal = λ i low high. rw (le-ltb (p .n) i high) at (row-passes i low (omega (arith, passes-height)) .1);
+    tall = passes-height .0;
   }
 
--- ---- the numbers of the faults go to 5
+-- ---- the numbers of the faults: 1 to 5, and 25
 
 cond-le : (t : Bool) (a b c : ℕ) → a ≤ c → b ≤ c → cond t a b ≤ c
 cond-le true a b c x y = x
@@ -113,14 +120,22 @@ rows-small : (p : Lent) (i left : ℕ) → rowsFault p i left ≤ 5
 unfolding rowsFault rowFault
 rows-small p i zero = omega arith
 rows-small p i (suc left) =
-    first-le (firstFault (entriesFault (p .n) 0 (rowOf p i)) (cond (member i (rowOf p i)) 0 5)) (rowsFault p (suc i) left) 5
-    (first-le _ _ 5 (entries-small (p .n) 0 (rowOf p i)) (cond-le (member i (rowOf p i)) 0 5 5 (omega arith) (omega arith)))
+    first-le (firstFault (entriesFault (p .n) 0 (rowOf p i)) (cond (ltb (p .n) i || member i (rowOf p i)) 0 5)) (rowsFault p (suc i) left) 5
+    (first-le _ _ 5 (entries-small (p .n) 0 (rowOf p i)) (cond-le (ltb (p .n) i || member i (rowOf p i)) 0 5 5 (omega arith) (omega arith)))
     (rows-small p (suc i) left)
 
--- No fault of a pattern has a number above 5.
-pub fault-small : (most : ℕ) (p : Lent) → patternFault most p ≤ 5
+-- A fault of a pattern has a number up to 5, or is 25.
+pub fault-known : (most : ℕ) (p : Lent) → (patternFault most p ≤ 5) ⊎ (patternFault most p ≡ 25)
 unfolding patternFault
-fault-small most p = cond-le (tooLarge most p) 1 _ 5 (omega arith) (cond-le (startsFit p) _ 2 5 (rows-small p 1 (p .n)) (omega arith))
+fault-known most p =
+    by-test (tooLarge most p) (λ e. inl (rw e (omega arith)))
+    (λ e. by-test (heightFits p)
+    (λ h. inl (rw (e, h) (cond-le (startsFit p) _ 2 5 (rows-small p 1 (p .height)) (omega arith))))
+    (λ h. inr (rw (e, h))))
+
+-- 25 alone of them is above 5
+pub fault-small : (most : ℕ) (p : Lent) → patternFault most p ≤ 25
+fault-small most p = ⊎-elim (λ (h : patternFault most p ≤ 5). omega arith) (λ (h : patternFault most p ≡ 25). omega arith) (fault-known most p)
 
 -- ---- entries
 
@@ -142,26 +157,26 @@ rising low (x ∷ xs) (suc i) zero e l h = absurd (omega arith)
 rising low (x ∷ xs) (suc i) (suc j) e l h = rising x xs i j (and-right (leb low x) (notFalling x xs) e) (omega arith) (omega arith)
 
 module _ (p : Lent) (fit : startsFit p ≡ true) where
-  starts-parts : (length (p .starts) ≡ suc (p .n)) × (getD (p .starts) 0 0 ≡ 0) × (notFalling 0 (p .starts) ≡ true) × (getD (p .starts) (p .n) 0 ≡ length (p .columns))
+  starts-parts : (length (p .starts) ≡ suc (p .height)) × (getD (p .starts) 0 0 ≡ 0) × (notFalling 0 (p .starts) ≡ true) × (getD (p .starts) (p .height) 0 ≡ length (p .columns))
   unfolding startsFit
   starts-parts =
-      let e₁ = and-right (eqb (length (p .starts)) (suc (p .n))) _ fit in
+      let e₁ = and-right (eqb (length (p .starts)) (suc (p .height))) _ fit in
       let e₂ = and-right (eqb (getD (p .starts) 0 0) 0) _ e₁ in (
-        eqb-true _ _ (and-left (eqb (length (p .starts)) (suc (p .n))) _ fit),
+        eqb-true _ _ (and-left (eqb (length (p .starts)) (suc (p .height))) _ fit),
         eqb-true _ _ (and-left (eqb (getD (p .starts) 0 0) 0) _ e₁),
         and-left (notFalling 0 (p .starts)) _ e₂,
         eqb-true _ _ (and-right (notFalling 0 (p .starts)) _ e₂),
       )
 
-  row-length : (m : ℕ) → suc m ≤ p .n → length (rowOf p (suc m)) ≡ getD (p .starts) (suc m) 0 - getD (p .starts) m 0
+  row-length : (m : ℕ) → suc m ≤ p .height → length (rowOf p (suc m)) ≡ getD (p .starts) (suc m) 0 - getD (p .starts) m 0
   unfolding rowOf
   row-length m h =
       let (count, zeroth, up, end) = starts-parts in
       length-slice (getD (p .starts) m 0) (getD (p .starts) (suc m) 0) (p .columns)
-      (omega (arith, rising 0 (p .starts) (suc m) (p .n) up h (omega arith)))
+      (omega (arith, rising 0 (p .starts) (suc m) (p .height) up h (omega arith)))
 
   -- Where starts fit, the first m rows hold as many entries as the start behind them says.
-  pub rows-before : (m : ℕ) → m ≤ p .n → total (λ i. length (rowOf p i)) (upto m) ≡ getD (p .starts) m 0
+  pub rows-before : (m : ℕ) → m ≤ p .height → total (λ i. length (rowOf p i)) (upto m) ≡ getD (p .starts) m 0
   unfolding total upto run
   rows-before zero h = sym (starts-parts .1)
   rows-before (suc m) h =
@@ -176,4 +191,4 @@ pub passes-entries : (most : ℕ) (p : Lent) → patternFault most p ≡ 0 → e
 unfolding entriesOf patternOf
 passes-entries most p passes =
     let fit = passes-starts most p passes in
-    rows-before p fit (p .n) (omega arith) ∙ starts-parts p fit .3
+    rows-before p fit (p .height) (omega arith) ∙ starts-parts p fit .3

@@ -3,7 +3,7 @@ use mathlib.Core.Bool.{true, false, false≢true, not}
 use mathlib.Core.List.{List, [], _∷_}
 use mathlib.Core.Logic.{_↔_, Iff·trans, _⊎_, inl, inr, ⊎-elim, ⊎-map}
 use mathlib.Core.Path.{_≡_, refl, sym, ap, _∙_}
-use Prim.Native.Nat.{ℕ, _+_, _-_, _≤_, _<_}
+use Prim.Native.Nat.{ℕ, zero, suc, _+_, _-_, _≤_, _<_}
 use native.Mathlib.Decide.{decLt}
 use native.Mathlib.Omega.{arith}
 use lib.ListN.{length}
@@ -18,7 +18,7 @@ use Rattle.foundation.specs.Plan.{Side, lower, upper, Planning, list, un
 use Rattle.foundation.specs.Facts.{Plannable}
 use Rattle.foundation.specs.Claims.PlanParts.{FirstEntry, RowsMet, SetsJoined, ListsMade, ListsAscend, ListsOfRows, LocalInitialization, RowsObtained, StepsTested, InfluenceCollected, SetsUpdated, ReadsOfParts}
 use Rattle.foundation.proofs.Passing.{passes-plannable}
-use Rattle.foundation.proofs.Steps.{fromRows, list-frame, list-later, joined, joins, S-falls, S-frame}
+use Rattle.foundation.proofs.Steps.{fromRows, list-frame, list-later, joined, joins, S-none, S-falls, S-frame, first-inside}
 use Rattle.foundation.proofs.Gathered.{met-least, least-met, first-met-at, list-cases, list-row, list-step}
 use Rattle.foundation.proofs.Listed.{single, list-ascends, rows-ascend}
 use Rattle.foundation.proofs.ReadsBound.{first-ascends}
@@ -53,14 +53,14 @@ module _ (p : Lent) (ok : Plannable (patternOf p)) where
   -- ---- a row's first entry
 
   -- a row's first entry stands in its least column
-  least-first : (k i : ℕ) → 1 ≤ k → ((1 ≤ i) × (i ≤ p .n) × (leastAbove 0 (rowOf p i) ≡ k)) ↔ FirstEntry p k i
+  least-first : (k i : ℕ) → 1 ≤ k → ((1 ≤ i) × (i ≤ p .height) × (leastAbove 0 (rowOf p i) ≡ k)) ↔ FirstEntry p k i
   unfolding FirstEntry patternOf
   least-first k i low = (to, back)
     where
       row : List ℕ
       row = rowOf p i
 
-      to : (1 ≤ i) × (i ≤ p .n) × (leastAbove 0 row ≡ k) → FirstEntry p k i
+      to : (1 ≤ i) × (i ≤ p .height) × (leastAbove 0 row ≡ k) → FirstEntry p k i
       to (a, b, q) = (
         a,
         b,
@@ -68,7 +68,7 @@ module _ (p : Lent) (ok : Plannable (patternOf p)) where
         (λ j h. fails (member j row) (λ e. omega (arith, least-least j 0 1 row (ok .ascending i a b) e (member-low j 1 row (ok .ascending i a b) e)))),
       )
 
-      back : FirstEntry p k i → (1 ≤ i) × (i ≤ p .n) × (leastAbove 0 row ≡ k)
+      back : FirstEntry p k i → (1 ≤ i) × (i ≤ p .height) × (leastAbove 0 row ≡ k)
       back (a, b, e, none) =
           elim (decLt (leastAbove 0 row) k) [
             | yes h ↦ absurd (false≢true (sym (none (leastAbove 0 row) h) ∙ least-member k 0 row e low))
@@ -80,21 +80,27 @@ module _ (p : Lent) (ok : Plannable (patternOf p)) where
   -- the rows met after m steps, of any state that has the same
   met-after : (m : ℕ) (s : Planning) → s .met ≡ after (patternOf p) m .met → s .firstMet ≡ after (patternOf p) m .firstMet → RowsMet p s m
   unfolding RowsMet patternOf
-  met-after m s met first = ((λ i. rw met (to i, back i)), (λ l i low high. rw first (at l i low high)))
+  met-after m s met first = ((λ i. rw met (to i, back i)), (λ l i. rw first (at l i)))
     where
-      to : (i : ℕ) → after (patternOf p) m .met i ≡ true → (1 ≤ i) × (i ≤ p .n) × ((j : ℕ) × (j ≤ m) × (member j (rowOf p i) ≡ true))
+      to : (i : ℕ) → after (patternOf p) m .met i ≡ true → (1 ≤ i) × (i ≤ p .height) × ((j : ℕ) × (j ≤ m) × (member j (rowOf p i) ≡ true))
       to i e =
           let (a, b, low, high) = met-least (patternOf p) ok m i e in
           (a, b, (leastAbove 0 (rowOf p i), high, least-nonzero-member 0 (rowOf p i) (omega arith)))
 
-      back : (i : ℕ) → (1 ≤ i) × (i ≤ p .n) × ((j : ℕ) × (j ≤ m) × (member j (rowOf p i) ≡ true)) → after (patternOf p) m .met i ≡ true
+      back : (i : ℕ) → (1 ≤ i) × (i ≤ p .height) × ((j : ℕ) × (j ≤ m) × (member j (rowOf p i) ≡ true)) → after (patternOf p) m .met i ≡ true
       back i (a, b, (j, high, e)) =
           let up : Ascending 1 (rowOf p i) = ok .ascending i a b in
           let low : 0 < j = member-low j 1 (rowOf p i) up e in
           least-met (patternOf p) ok m i a b (least-above j 0 (rowOf p i) e low) (omega (arith, least-least j 0 1 (rowOf p i) up e low))
 
-      at : (l i : ℕ) → 1 ≤ l → l ≤ m → (member i (after (patternOf p) m .firstMet l) ≡ true) ↔ FirstEntry p l i
-      at l i low high = Iff·trans (first-met-at (patternOf p) ok m l i low high) (least-first l i low)
+      first-at : (l i : ℕ) → 1 ≤ l → l ≤ m → (member i (after (patternOf p) m .firstMet l) ≡ true) ↔ FirstEntry p l i
+      first-at l i low high = Iff·trans (first-met-at (patternOf p) ok m l i low high) (least-first l i low)
+
+      at : (l i : ℕ) → (member i (after (patternOf p) m .firstMet l) ≡ true) ↔ ((1 ≤ l) × (l ≤ m) × FirstEntry p l i)
+      at l i = (
+        (λ e. let (low, high) = first-inside (patternOf p) m l i e in (low, high, first-at l i low high .0 e)),
+        (λ (low, high, e). first-at l i low high .1 e),
+      )
 
   module _ (m : ℕ) (small : m ≤ p .n) where
     -- the lists of the steps done are those of the plan
@@ -105,7 +111,7 @@ module _ (p : Lent) (ok : Plannable (patternOf p)) where
     -- the sets S after m steps
     sets-after : (s : Planning) → s .S ≡ after (patternOf p) m .S → SetsJoined p s m
     unfolding SetsJoined list
-    sets-after s same = ((λ l r low. rw same (to l r low, back l r)), (λ r. rw same (S-falls (patternOf p) m r)))
+    sets-after s same = ((λ l r. rw same (to l r, back l r)), (λ r. rw same (S-falls (patternOf p) m r)))
       where
         t : Planning
         t = after (patternOf p) m
@@ -113,14 +119,17 @@ module _ (p : Lent) (ok : Plannable (patternOf p)) where
         whole : Planning
         whole = plan (patternOf p)
 
-        to : (l r : ℕ) → 1 ≤ r → member l (t .S r) ≡ true → (1 ≤ l) × (l ≤ m) × (1 < length (whole .L l)) × (leastAbove l (whole .U l) ≡ r)
-        to l r low e =
-            let (a, b, c, least, many) = joined (patternOf p) m l r low e in
-            (a, b, rw (list-whole lower l b) at many, rw (list-whole upper l b) at least)
+        to : (l r : ℕ) → member l (t .S r) ≡ true → (1 ≤ r) × (1 ≤ l) × (l ≤ m) × (1 < length (whole .L l)) × (leastAbove l (whole .U l) ≡ r)
+        to l zero e = absurd (not-member-nil l (rw (S-none (patternOf p) m) at e))
+        to l (suc r) e =
+            let low : 1 ≤ suc r = omega arith in
+            let (a, b, c, least, many) = joined (patternOf p) m l (suc r) low e in
+            (low, a, b, rw (list-whole lower l b) at many, rw (list-whole upper l b) at least)
 
-        back : (l r : ℕ) → (1 ≤ l) × (l ≤ m) × (1 < length (whole .L l)) × (leastAbove l (whole .U l) ≡ r) → member l (t .S r) ≡ true
-        back l r (a, b, many, least) =
-            rw (sym least, sym (list-whole upper l b)) (joins (patternOf p) m l a b (rw (sym (list-whole lower l b)) at many))
+        back : (l r : ℕ) → (1 ≤ r) × (1 ≤ l) × (l ≤ m) × (1 < length (whole .L l)) × (leastAbove l (whole .U l) ≡ r) → member l (t .S r) ≡ true
+        back l r (low, a, b, many, least) =
+            let some : leastAbove l (t .U l) ≡ r = rw (list-whole upper l b) least in
+            rw (sym some) (joins (patternOf p) m l a b (rw (sym (list-whole lower l b)) at many) (omega arith))
 
     -- the lists after m steps
     lists-after : (s : Planning) → s .L ≡ after (patternOf p) m .L → s .U ≡ after (patternOf p) m .U → ListsMade p s m
@@ -140,7 +149,9 @@ module _ (p : Lent) (ok : Plannable (patternOf p)) where
     -- the rows first met at k are those with their first entry there
     first-here : (i : ℕ) → (member i (after (patternOf p) (p .n) .firstMet k) ≡ true) ↔ FirstEntry p k i
     unfolding RowsMet
-    first-here i = met-after (p .n) (after (patternOf p) (p .n)) refl refl .1 k i low high
+    first-here i =
+        let (to, back) = met-after (p .n) (after (patternOf p) (p .n)) refl refl .1 k i in
+        ((λ e. to e .2), (λ e. back (low, high, e)))
 
     -- what they bring to L_k, and to U_k
     brought-lower : (x : ℕ) → ((i : ℕ) × FirstEntry p k i × (member x (brings (patternOf p) lower i) ≡ true)) ↔ FirstEntry p k x
@@ -221,7 +232,9 @@ module _ (p : Lent) (ok : Plannable (patternOf p)) where
 
         joins-just :
             (l : ℕ) → (member l (S k) ≡ true) ↔ ((1 ≤ l) × (l ≤ k - 1) × (1 < length (plan (patternOf p) .L l)) × (leastAbove l (plan (patternOf p) .U l) ≡ k))
-        joins-just l = rows-known .1 .0 l k low
+        joins-just l =
+            let (to, back) = rows-known .1 .0 l k in
+            ((λ e. let (r, a, b, many, least) = to e in (a, b, many, least)), (λ (a, b, many, least). back (low, a, b, many, least)))
 
         to : S k ≡ [] → (l : ℕ) → 1 ≤ l → l < k → 1 < length (plan (patternOf p) .L l) → leastAbove l (plan (patternOf p) .U l) ≡ k → ⊥
         to e l a b many least = not-member-nil l (rw e at (joins-just l .1 (a, omega arith, many, least)))

@@ -10,7 +10,7 @@ use Rattle.foundation.specs.Answer.{refused, granted, refuseIf, andThen}
 use Rattle.foundation.specs.Claims.{RunsAlike, PlanAccepted, RoomEnough, SlotsEnough, PlannedRunsAlike}
 use Rattle.foundation.specs.Pattern.{Lent, patternOf, patternFault}
 use Rattle.foundation.specs.Plan.{Planning, lower, upper, plan}
-use Rattle.foundation.specs.PlanCall.{LentPlan, WorkSizes, sizesFit, agrees, planned, held}
+use Rattle.foundation.specs.PlanCall.{LentPlan, WorkSizes, sizesFit, agrees, planned, heldIf, held}
 use Rattle.foundation.specs.RunCall.{Lending, lendingFits}
 use Rattle.foundation.specs.Slots.{slotsOf}
 use Rattle.foundation.proofs.Alike.{judged-passes}
@@ -19,7 +19,7 @@ use Rattle.foundation.proofs.Alike.{judged-passes}
 held-fits :
     (most : ℕ) (p : Lent) (q : LentPlan) (work : WorkSizes) (s : Planning) → patternFault most p ≡ 0 → held most p q work ≡ granted s
     → (sizesFit p (q .stores) work ≡ true) × (agrees p (plan (patternOf p)) q ≡ true)
-unfolding held andThen refuseIf
+unfolding held heldIf andThen refuseIf
 held-fits most p q work s ok e =
     let e′ : cond (not (sizesFit p (q .stores) work)) (refused 6 0) (cond (not (agrees p (plan (patternOf p)) q)) (refused 9 0) (granted (plan (patternOf p)))) ≡ granted s = rw (judged-passes most p ok) at e in
     by-test (sizesFit p (q .stores) work)
@@ -31,7 +31,7 @@ held-fits most p q work s ok e =
 
 -- the lengths of 10, the slots' among them
 lending-fits :
-    (p : Lent) (s : Planning) (w : Lending) → length (w .values) ≡ length (p .columns) → length (w .right) ≡ p .n → w .solution ≡ p .n → w .pivots ≡ p .n
+    (p : Lent) (s : Planning) (w : Lending) → length (w .values) ≡ length (p .columns) → length (w .right) ≡ p .height → w .solution ≡ p .height → w .pivots ≡ p .n
     → w .diagonal ≡ p .n → slotsOf s lower (p .n) ≤ w .lowerSlots → slotsOf s upper (p .n) ≤ w .upperSlots → lendingFits p s w ≡ true
 unfolding lendingFits
 lending-fits p s w values right solution pivots diagonal lowers uppers =
@@ -39,9 +39,9 @@ lending-fits p s w values right solution pivots diagonal lowers uppers =
 
 pub planned-runs-alike-from : RoomEnough → PlanAccepted → SlotsEnough → RunsAlike → PlannedRunsAlike
 unfolding RoomEnough PlanAccepted SlotsEnough RunsAlike PlannedRunsAlike
-planned-runs-alike-from room accepted slots alike most p stores work later choice extent w ok sizes subscripts roomy lengths sound =
+planned-runs-alike-from room accepted slots alike most p stores work later choice extent w ok sizes subscripts roomy lengths may sound =
     let grants : planned most p stores work ≡ granted (plan (patternOf p)) = room most p stores work ok (sizes .0) (subscripts .0) (subscripts .1) in
     let taken = held-fits most p _ later _ ok (accepted most p stores work later (plan (patternOf p)) grants (sizes .1)) in
     let fits : lendingFits p (plan (patternOf p)) w ≡ true =
     lending-fits p (plan (patternOf p)) w (lengths .0) (lengths .1) (lengths .2) (lengths .3) (lengths .4) (omega (arith, slots most p ok lower)) (omega (arith, slots most p ok upper)) in
-    (grants, rw grants (alike most p _ later choice extent w ok (taken .0) (taken .1) fits (sound .0) (sound .1)))
+    (grants, rw grants (alike most p _ later choice extent w ok (taken .0) may (taken .1) fits (sound .0) (sound .1)))

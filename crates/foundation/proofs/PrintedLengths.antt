@@ -13,8 +13,8 @@ use Rattle.lists.proofs.Places.{length-chain, length-upto}
 use Rattle.foundation.specs.Numbers.{bitsOf}
 use Rattle.foundation.specs.Pattern.{Lent}
 use Rattle.foundation.specs.Plan.{Side, lower, upper, plan}
-use Rattle.foundation.specs.PlanCall.{countsOf, countNumbers, subscripts}
-use Rattle.foundation.specs.Printing.{spaced, hexBits, planLine, rowsLine, solutionLine, updatesLine, refusedLine, report}
+use Rattle.foundation.specs.PlanCall.{countsOf, subscripts}
+use Rattle.foundation.specs.Printing.{spaced, hexBits, lineNumbers, planLine, rowsLine, solutionLine, updatesLine, refusedLine, report}
 use Rattle.foundation.specs.Reference.{Going, step}
 use Rattle.foundation.specs.RunCall.{Ran}
 use Rattle.foundation.specs.Slots.{slotsOf}
@@ -57,7 +57,7 @@ pub record Small (p : Lent) (r : Ran) : Type 0 where
   pub updates : r .end .updates < word
 
 plan-few : (p : Lent) (r : Ran) → Small p r → length (planLine (countsOf p (r .plan))) ≤ 152
-unfolding planLine countNumbers countsOf chain ascii
+unfolding planLine lineNumbers countsOf chain ascii
 plan-few p r s =
     simp length-append
     (omega (

@@ -1,4 +1,4 @@
--- How many updates a run of at most 128 rows counts, and at which step or row it can stop.
+-- How many updates a run of at most 128 fields and 2,048 rows counts, and at which step or row it can stop.
 use mathlib.Core.Bool.{cond}
 use mathlib.Core.Path.{_≡_, ap}
 use Prim.Native.Nat.{ℕ, zero, suc, _-_, _*_, _≤_}
@@ -17,7 +17,7 @@ use Rattle.foundation.specs.Square.{Square, exchanged}
 use Rattle.foundation.proofs.FloatRun.{runTo, run-did}
 
 -- a step counts at most one update for each place
-step-few : (height n k : ℕ) (square : Square Float) → height ≤ 128 → n ≤ 128 → updatesAt height n k square ≤ 16384
+step-few : (height n k : ℕ) (square : Square Float) → height ≤ 2048 → n ≤ 128 → updatesAt height n k square ≤ 262144
 unfolding updatesAt between
 step-few height n k square h l =
     let across : (i : ℕ) → cond (isZero (multiplier k square i)) 0 (total (λ j. cond (isZero (square k j)) 0 1) (between (suc k) n)) ≤ 128 =
@@ -37,9 +37,9 @@ step-few height n k square h l =
           rw (length-run (suc k) (suc n - suc k)) at (total-constant 1 (between (suc k) n)),
         )
 
-module _ (p : Pattern) (choice : Choice) (values : Square Float) (right : ℕ → Float) (height-few : p .height ≤ 128) (n-few : p .n ≤ 128) where
+module _ (p : Pattern) (choice : Choice) (values : Square Float) (right : ℕ → Float) (height-few : p .height ≤ 2048) (n-few : p .n ≤ 128) where
   -- so after s steps there are few
-  pub run-few : (s : ℕ) (g : Going) → runTo p choice values right s ≡ going g → g .updates ≤ s * 16384
+  pub run-few : (s : ℕ) (g : Going) → runTo p choice values right s ≡ going g → g .updates ≤ s * 262144
   unfolding running starting stepped
   run-few zero g e = let same : starting p values right ≡ g = cc in let none : 0 ≡ g .updates = ap (λ h. h .updates) same in omega arith
   run-few (suc s) g e =
@@ -49,7 +49,7 @@ module _ (p : Pattern) (choice : Choice) (values : Square Float) (right : ℕ �
         arith,
         run-few s (d .was) (d .from),
         step-few (p .height) (p .n) (suc s) (exchanged (suc s) (d .row) (d .was .square)) height-few n-few,
-        suc-mul s 16384,
+        suc-mul s 262144,
       ))
 
 -- a course that stopped did so at this step or row or before it

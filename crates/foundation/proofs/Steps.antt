@@ -1,5 +1,5 @@
 -- How the state of planning develops: what a step leaves as it was, and the equations of the plan.
-use mathlib.Core.Bool.{true, false≢true, cond, not, _||_}
+use mathlib.Core.Bool.{true, false≢true, cond, not, _&&_, _||_}
 use mathlib.Core.List.{List, [], _∷_}
 use mathlib.Core.Logic.{_⊎_, inl, inr, ⊎-elim}
 use mathlib.Core.Path.{_≡_, refl, sym, ap, _∙_}
@@ -10,7 +10,7 @@ use lib.ListN.{length}
 use borrow.Author.Tests.{eqb-true, eqb-false, ltb-true, lt-ltb}
 use Rattle.lists.specs.Functions.{update, total, empty}
 use Rattle.lists.specs.Sets.{member, joinAll, from, leastAbove, upto, run, Falling}
-use Rattle.lists.proofs.Members.{by-test, or-left, or-right, or-true-cases, member-head, member-tail, member-cases, not-member-nil, joinAll-cong}
+use Rattle.lists.proofs.Members.{by-test, and-left, and-right, or-left, or-right, or-true-cases, member-head, member-tail, member-cases, not-member-nil, joinAll-cong}
 use Rattle.lists.proofs.Places.{update-same, update-other, upto-snoc, total-append}
 use Rattle.lists.proofs.Least.{least-nonzero-above}
 use Rattle.lists.proofs.Counting.{total-cong}
@@ -40,38 +40,45 @@ module _ (k : ℕ) (lk uk : List ℕ) (S : ℕ → List ℕ) where
   -- Handing on changes no set of a step that is done.
   pub hand-other : (j : ℕ) → 1 ≤ j → j ≤ k → handOn k lk uk S j ≡ S j
   unfolding handOn
-  hand-other j low high = by-test (ltb 1 (length lk))
+  hand-other j low high = by-test (ltb 1 (length lk) && ltb 0 (leastAbove k uk))
       (λ e. rw e (update-other S (leastAbove k uk) (k ∷ S (leastAbove k uk)) j (λ q. omega (arith, least-nonzero-above k uk (omega arith)))))
       (λ e. rw e)
 
   -- What handing on adds to a set is the step itself, where it hands on and to which set.
   pub hand-cases : (l j : ℕ) → member l (handOn k lk uk S j) ≡ true → ((l ≡ k) × (j ≡ leastAbove k uk) × (1 < length lk)) ⊎ (member l (S j) ≡ true)
   unfolding handOn update
-  hand-cases l j m = by-test (ltb 1 (length lk))
+  hand-cases l j m = by-test (ltb 1 (length lk) && ltb 0 (leastAbove k uk))
       (λ e. by-test (eqb j (leastAbove k uk))
       (λ q. let r : j ≡ leastAbove k uk = eqb-true j (leastAbove k uk) q in
-      ⊎-elim (λ (h : l ≡ k). inl (h, r, ltb-true 1 (length lk) e)) (λ h. inr (rw r h)) (member-cases l k (S (leastAbove k uk)) (rw (e, q) at m)))
+      ⊎-elim (λ (h : l ≡ k). inl (h, r, ltb-true 1 (length lk) (and-left (ltb 1 (length lk)) _ e))) (λ h. inr (rw r h)) (member-cases l k (S (leastAbove k uk)) (rw (e, q) at m)))
       (λ q. inr (rw (e, q) at m)))
       (λ e. inr (rw e at m))
 
   -- Handing on drops no member.
   pub hand-keeps : (l j : ℕ) → member l (S j) ≡ true → member l (handOn k lk uk S j) ≡ true
   unfolding handOn update
-  hand-keeps l j m = by-test (ltb 1 (length lk))
+  hand-keeps l j m = by-test (ltb 1 (length lk) && ltb 0 (leastAbove k uk))
       (λ e. by-test (eqb j (leastAbove k uk))
       (λ q. rw (e, q) (member-tail l k (S (leastAbove k uk)) (rw (eqb-true j (leastAbove k uk) q) at m)))
       (λ q. rw (e, q) m))
       (λ e. rw e m)
 
-  -- A step whose L has more than one member joins the set of its least further member of U.
-  pub hand-joins : 1 < length lk → member k (handOn k lk uk S (leastAbove k uk)) ≡ true
+  -- A step whose L has more than one member joins the set of its least further member of U, if there is one.
+  pub hand-joins : 1 < length lk → 1 ≤ leastAbove k uk → member k (handOn k lk uk S (leastAbove k uk)) ≡ true
   unfolding handOn
-  hand-joins h = rw (lt-ltb 1 (length lk) h, update-same) (member-head k (S (leastAbove k uk)))
+  hand-joins h some = rw (lt-ltb 1 (length lk) h, lt-ltb 0 (leastAbove k uk) some, update-same) (member-head k (S (leastAbove k uk)))
+
+  -- There is no step 0 to hand on to.
+  pub hand-none : handOn k lk uk S 0 ≡ S 0
+  unfolding handOn
+  hand-none = by-test (ltb 1 (length lk) && ltb 0 (leastAbove k uk))
+      (λ e. rw e (update-other S (leastAbove k uk) (k ∷ S (leastAbove k uk)) 0 (λ q. omega (arith, ltb-true 0 (leastAbove k uk) (and-right (ltb 1 (length lk)) _ e)))))
+      (λ e. rw e)
 
   -- A set that falls goes on falling.
   pub hand-falls : (j : ℕ) → Falling k (S j) → Falling (suc k) (handOn k lk uk S j)
   unfolding handOn update Falling
-  hand-falls j h = by-test (ltb 1 (length lk))
+  hand-falls j h = by-test (ltb 1 (length lk) && ltb 0 (leastAbove k uk))
       (λ e. by-test (eqb j (leastAbove k uk))
       (λ q. rw (e, q) (omega arith, rw (eqb-true j (leastAbove k uk) q) at h))
       (λ q. rw (e, q) (falling-weaken k (suc k) (S j) (omega arith) h)))
@@ -205,22 +212,33 @@ module _ (p : Pattern) where
       (before .0, omega arith, before .2, before .3, before .4))
       (hand-cases (suc m) lk uk (s .S) l k (rw (turn-S (suc m) s) at e))
 
-  -- A step done with more than one member in its L is in the set of its least further member of U.
-  pub joins : (m l : ℕ) → 1 ≤ l → l ≤ m → 1 < length (after p m .L l) → member l (after p m .S (leastAbove l (after p m .U l))) ≡ true
+  -- A step done with more than one member in its L is in the set of its least further member of U, if there is one.
+  pub joins :
+      (m l : ℕ) → 1 ≤ l → l ≤ m → 1 < length (after p m .L l) → 1 ≤ leastAbove l (after p m .U l)
+      → member l (after p m .S (leastAbove l (after p m .U l))) ≡ true
   unfolding after list
-  joins zero l low h many = absurd (omega arith)
-  joins (suc m) l low h many =
+  joins zero l low h many some = absurd (omega arith)
+  joins (suc m) l low h many some =
       let s : Planning = after p m in
       let lk : List ℕ = gathered p s lower (suc m) in
       let uk : List ℕ = gathered p s upper (suc m) in
       by-test (eqb l (suc m))
       (λ e.
       let q : l ≡ suc m = eqb-true l (suc m) e in
-      rw (q, turn-list-own (suc m) s upper, turn-S (suc m) s) (hand-joins (suc m) lk uk (s .S) (rw (q, turn-list-own (suc m) s lower) at many)))
+      rw (q, turn-list-own (suc m) s upper, turn-S (suc m) s) (hand-joins (suc m) lk uk (s .S) (rw (q, turn-list-own (suc m) s lower) at many) (rw (q, turn-list-own (suc m) s upper) at some)))
       (λ e.
       let n : l ≡ suc m → ⊥ = eqb-false l (suc m) e in
       rw (turn-list-other (suc m) s upper l n, turn-S (suc m) s)
-      (hand-keeps (suc m) lk uk (s .S) l (leastAbove l (s .U l)) (joins m l low (omega arith) (rw (turn-list-other (suc m) s lower l n) at many))))
+      (hand-keeps (suc m) lk uk (s .S) l (leastAbove l (s .U l)) (joins m l low (omega arith) (rw (turn-list-other (suc m) s lower l n) at many) (rw (turn-list-other (suc m) s upper l n) at some))))
+
+  -- No step joins a set 0.
+  pub S-none : (m : ℕ) → after p m .S 0 ≡ []
+  unfolding after beforeSteps
+  S-none zero = refl
+  S-none (suc m) =
+      ap (λ (f : ℕ → List ℕ). f 0) (turn-S (suc m) (after p m))
+      ∙ hand-none (suc m) (gathered p (after p m) lower (suc m)) (gathered p (after p m) upper (suc m)) (after p m .S)
+      ∙ S-none m
 
   -- The sets S fall: the newest step stands first.
   pub S-falls : (m k : ℕ) → Falling (suc m) (after p m .S k)
@@ -298,6 +316,15 @@ module _ (p : Pattern) where
       (before .0, before .1, omega arith, rw (turn-first-other (suc m) s (before .0) (omega arith)) (before .3)))
       (λ new. (suc m, omega arith, omega arith, rw (turn-first-own (suc m) s) new))
       (or-true-cases (s .met i) (member i (unmetRows p s (suc m))) (rw (turn-met (suc m) s i) at e))
+
+  -- A row is first met at a step done.
+  pub first-inside : (m l i : ℕ) → member i (after p m .firstMet l) ≡ true → (1 ≤ l) × (l ≤ m)
+  unfolding after beforeSteps
+  first-inside zero l i e = absurd (not-member-nil i e)
+  first-inside (suc m) l i e =
+      by-test (eqb l (suc m))
+      (λ t. omega (arith, eqb-true l (suc m) t))
+      (λ t. omega (arith, first-inside m l i (rw (turn-first-other (suc m) (after p m) l (eqb-false l (suc m) t)) at e)))
 
   -- A row first met at some step done is met.
   pub met-since : (m i l : ℕ) → 1 ≤ l → l ≤ m → member i (after p m .firstMet l) ≡ true → after p m .met i ≡ true

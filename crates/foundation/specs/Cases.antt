@@ -15,6 +15,7 @@ pub mod Back
 pub mod StepParts
 pub mod Faint
 pub mod RunCall
+pub mod Tall
 pub mod Shown
 pub mod Free
 pub mod Job

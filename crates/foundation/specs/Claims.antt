@@ -6,7 +6,7 @@ pub mod Offsets
 pub mod Tallies
 pub mod Loads
 pub mod PlanParts
-use mathlib.Core.Bool.{Bool, true, false}
+use mathlib.Core.Bool.{Bool, true, false, cond}
 use mathlib.Core.List.{List, _++_, map}
 use mathlib.Core.Logic.{_↔_}
 use mathlib.Core.Path.{_≡_}
@@ -14,10 +14,10 @@ use Prim.Native.Nat.{ℕ, _+_, _-_, _*_, _≤_, _<_}
 use lib.Dec.{eqb, ltb}
 use lib.Ieee.{Float, lt, le}
 use lib.ListN.{length, getD, take, drop}
-use Rattle.lists.specs.Functions.{keep, chain, padded}
+use Rattle.lists.specs.Functions.{keep, empty, chain, padded}
 use Rattle.lists.specs.Sets.{upto}
 use Rattle.foundation.specs.Answer.{Answer, refused, granted, andThen}
-use Rattle.foundation.specs.Pattern.{Lent, Pattern, present, patternOf, patternFault, judged}
+use Rattle.foundation.specs.Pattern.{Lent, Pattern, present, rowOf, patternOf, patternFault, judged}
 use Rattle.foundation.specs.Plan.{Planning, Side, plan, lower, upper}
 use Rattle.foundation.specs.Subscripts.{kept, roomFault}
 use Rattle.foundation.specs.Slots.{Slot, none, onDiagonal, inSide, hasSlot, slotAt, slotsOf}
@@ -27,7 +27,7 @@ use Rattle.foundation.specs.Reference.{Choice, largest, listed, Extent, 
 use Rattle.foundation.specs.Shown.{shown, shownDiagonal, laid}
 use Rattle.foundation.specs.Free.{FreeStep, FreeState, freeStart, freeRun, freeAfter}
 use Rattle.foundation.specs.PlanCall.{SideStores, PlanStores, LentPlan, WorkSizes, workFits, sizesFit, agrees, countsOf, planned, planLeaves, held}
-use Rattle.foundation.specs.RunCall.{Lending, lendingFits, allFinite, choiceFits, orderFits, valueAt, rightAt, Ran, ranWith, ran, legal, runAnswer, runLeaves}
+use Rattle.foundation.specs.RunCall.{Lending, lendingFits, allFinite, choiceFits, orderFits, mayRun, valueAt, rightAt, Ran, ranWith, ran, legal, runAnswer, runLeaves}
 use Rattle.foundation.specs.Job.{Job}
 use Rattle.foundation.specs.Printing.{jobRun, printed}
 
@@ -44,7 +44,7 @@ FirstHalf =
     → isZero zero ≡ true
     → (values : Square A) (steps : List (FreeStep A)) (t i j : ℕ)
     → (isZero ((freeAfter (patternOf p) isZero zero values steps t) .square i j) ≡ false
-    → (1 ≤ i) × (i ≤ p .n) × (1 ≤ j) × (j ≤ p .n) × (hasSlot (plan (patternOf p)) i j ≡ true))
+    → (1 ≤ i) × (i ≤ p .height) × (1 ≤ j) × (j ≤ p .n) × (hasSlot (plan (patternOf p)) i j ≡ true))
     × ((t′ : ℕ)
     → t ≤ t′
     → j < (freeAfter (patternOf p) isZero zero values steps t) .k
@@ -68,7 +68,7 @@ SlotsSuffice =
     → isZero zero ≡ true
     → (values : Square A) (steps : List (FreeStep A)) (t i j : ℕ)
     → isZero ((freeRun (patternOf p) isZero (freeStart (patternOf p) zero values) (take t steps)) .square i j) ≡ false
-    → (1 ≤ i) × (i ≤ p .n) × (1 ≤ j) × (j ≤ p .n) × (hasSlot (plan (patternOf p)) i j ≡ true)
+    → (1 ≤ i) × (i ≤ p .height) × (1 ≤ j) × (j ≤ p .n) × (hasSlot (plan (patternOf p)) i j ≡ true)
 
 -- The second part of `FirstHalf`, "earlier multipliers staying where they were written", from any state: whatever steps follow, refused or taken, columns before
 -- k stay.
@@ -102,7 +102,7 @@ LaidBack =
     → (values : Square Float) (right : ℕ → Float) (g : Going)
     → reference choice extent (patternOf p) values right ≡ going g
     → (i j : ℕ)
-    → (1 ≤ i) × (i ≤ p .n) × (1 ≤ j) × (j ≤ p .n)
+    → (1 ≤ i) × (i ≤ p .height) × (1 ≤ j) × (j ≤ p .n)
     → laid (plan (patternOf p)) (shown (plan (patternOf p)) lower (p .n) (g .square)) (shown (plan (patternOf p)) upper (p .n) (g .square)) (shownDiagonal (p .n) (g .square)) i j
     ≡ (g .square) i j
 
@@ -124,22 +124,23 @@ slotWithin s n none = false
 slotWithin s n (onDiagonal q) = ltb q n
 slotWithin s n (inSide side q) = ltb q (slotsOf s side n)
 
--- The slot of a place of the square lies within them: no slot beyond those that 10 asks room for.
+-- The slot of a place lies within them, whatever rows there are: no slot beyond those that 10 asks room for.
 unfoldable pub SlotsWithin : Type 0
 SlotsWithin =
     (s : Planning) (n i j : ℕ)
-    → (1 ≤ i) × (i ≤ n) × (1 ≤ j) × (j ≤ n)
+    → (1 ≤ i) × (1 ≤ j) × (j ≤ n)
     → hasSlot s i j ≡ true
     → slotWithin s n (slotAt s i j) ≡ true
 
--- Each row is met exactly once: in the lists of rows first met at steps 1 to n, one behind the other, row i stands once.
+-- Each row is met exactly once, and an empty one, which only rows above n can be, never: in the lists of rows first met at steps 1 to n, one behind the other,
+-- row i stands once or not at all.
 unfoldable pub MetOnce : Type 0
 MetOnce =
     (most : ℕ) (p : Lent)
     → patternFault most p ≡ 0
     → (i : ℕ)
-    → (1 ≤ i) × (i ≤ p .n)
-    → length (keep (eqb i) (chain ((plan (patternOf p)) .firstMet) (upto (p .n)))) ≡ 1
+    → (1 ≤ i) × (i ≤ p .height)
+    → length (keep (eqb i) (chain ((plan (patternOf p)) .firstMet) (upto (p .n)))) ≡ cond (empty (rowOf p i)) 0 1
 
 -- What the program lends always fits but for its room: a job's run is never refused with 6, and 7, 8 and 10 are those of 2,048 subscripts and 2,048 slots
 -- a side.
@@ -172,10 +173,10 @@ AnswerRoom = (job : List ℕ) → length (printed job) ≤ 8192
 pub record RunAlike (p : Lent) (w : Lending) (g : Going) (answer : Answer Ran) : Type 0 where
   pub finished : runAnswer answer ≡ granted (g .updates)
   pub places :
-      (i j : ℕ) → (1 ≤ i) × (i ≤ p .n) × (1 ≤ j) × (j ≤ p .n)
+      (i j : ℕ) → (1 ≤ i) × (i ≤ p .height) × (1 ≤ j) × (j ≤ p .n)
       → laid (plan (patternOf p)) ((runLeaves p w answer) .lowerSlots) ((runLeaves p w answer) .upperSlots) ((runLeaves p w answer) .diagonal) i j ≡ (g .square) i j
   pub outside : (i j : ℕ) → hasSlot (plan (patternOf p)) i j ≡ false → (g .square) i j ≡ plusZero
-  pub solution : (runLeaves p w answer) .solution ≡ map (g .right) (upto (p .n))
+  pub solution : (runLeaves p w answer) .solution ≡ map (g .right) (upto (p .height))
   pub pivots : (runLeaves p w answer) .pivots ≡ padded 0 (p .n) (g .pivots)
 
 -- Either the full square comes to its end and the run is alike, or it stops and the run is refused with the same number, 13 or 14, at the same step.
@@ -185,12 +186,13 @@ RunIs p w (stopped reason k) answer = runAnswer answer ≡ refused (numberOf rea
 
 -- Demand 3, second half: for every pattern that passes 1 to 5, with its plan lent in stores of the right lengths (6, 9), values and right side as
 -- many as they should be and stores that have room for the planned slots (10), all finite (11), either choice of rows and every list and extent that
--- 12 lets pass, the run is what the full square's is. No such run is refused for storage.
+-- 12 lets pass, a whole one only of a square (26), the run is what the full square's is. No such run is refused for storage.
 unfoldable pub RunsAlike : Type 0
 RunsAlike =
     (most : ℕ) (p : Lent) (q : LentPlan) (work : WorkSizes) (choice : Choice) (extent : Extent) (w : Lending)
     → patternFault most p ≡ 0
     → sizesFit p (q .stores) work ≡ true
+    → mayRun p extent ≡ true
     → agrees p (plan (patternOf p)) q ≡ true
     → lendingFits p (plan (patternOf p)) w ≡ true
     → allFinite w ≡ true
@@ -221,33 +223,39 @@ PlanAccepted =
     → workFits p later ≡ true
     → held most p (record { counts = countsOf p s; stores = planLeaves p (granted s) stores }) later ≡ granted s
 
--- n(n-1)/2 subscripts a side are always room enough: who lends that many never sees 7 or 8.
+-- Twice as many subscripts, or slots, of a side as are always enough: n(n-1)/2, and for L n more for each row above n.
+unfoldable pub twiceEnough : Lent → Side → ℕ
+twiceEnough p lower = p .n * (p .n - 1) + 2 * (p .n * (p .height - p .n))
+twiceEnough p upper = p .n * (p .n - 1)
+
+-- Who lends that many subscripts never sees 7 or 8.
 unfoldable pub RoomEnough : Type 0
 RoomEnough =
     (most : ℕ) (p : Lent) (stores : PlanStores) (work : WorkSizes)
     → patternFault most p ≡ 0
     → sizesFit p stores work ≡ true
-    → p .n * (p .n - 1) ≤ 2 * length (stores .lowerSide .subs)
-    → p .n * (p .n - 1) ≤ 2 * length (stores .upperSide .subs)
+    → twiceEnough p lower ≤ 2 * length (stores .lowerSide .subs)
+    → twiceEnough p upper ≤ 2 * length (stores .upperSide .subs)
     → planned most p stores work ≡ granted (plan (patternOf p))
 
--- and n(n-1)/2 slots a side are as many as any plan has.
+-- and no plan has more slots.
 unfoldable pub SlotsEnough : Type 0
-SlotsEnough = (most : ℕ) (p : Lent) → patternFault most p ≡ 0 → (side : Side) → 2 * slotsOf (plan (patternOf p)) side (p .n) ≤ p .n * (p .n - 1)
+SlotsEnough = (most : ℕ) (p : Lent) → patternFault most p ≡ 0 → (side : Side) → 2 * slotsOf (plan (patternOf p)) side (p .n) ≤ twiceEnough p side
 
 -- Demand 3, second half, from the pattern to the run: for every pattern that passes 1 to 5, "all finite values and right sides, every list naming for
--- each step k one of the rows k to n, and a run whole or cut after any number of steps, the run in the slots and the full square's are alike",
--- and "No such run is ever refused for storage". What a caller answers for is said in n, entries and lengths alone: the lengths of 6 in both calls,
--- room for n(n-1)/2 subscripts and slots a side, the other lengths of 10, then 11 and 12. Planning then grants the pattern's plan, so neither 7 nor
+-- each step k one of the rows k to n (ticket 9: "to the row count, its whole runs are those of squares"), and a run whole or cut after any number of
+-- steps, the run in the slots and the full square's are alike", and "No such run is ever refused for storage". What a caller answers for is said in n, the
+-- row count, entries and lengths alone: the lengths of 6 in both calls, room enough for subscripts and slots a side, the other lengths of 10, then 26, 11 and 12. Planning then grants the pattern's plan, so neither 7 nor
 -- 8; and the run on the plan just made comes to the full square's end alike, or stops where it stops with 13 or 14.
 unfoldable pub PlannedRunsAlike : Type 0
 PlannedRunsAlike =
     (most : ℕ) (p : Lent) (stores : PlanStores) (work later : WorkSizes) (choice : Choice) (extent : Extent) (w : Lending)
     → patternFault most p ≡ 0
     → (sizesFit p stores work ≡ true) × (workFits p later ≡ true)
-    → (p .n * (p .n - 1) ≤ 2 * length (stores .lowerSide .subs)) × (p .n * (p .n - 1) ≤ 2 * length (stores .upperSide .subs))
-    → (p .n * (p .n - 1) ≤ 2 * w .lowerSlots) × (p .n * (p .n - 1) ≤ 2 * w .upperSlots)
-    → (length (w .values) ≡ length (p .columns)) × (length (w .right) ≡ p .n) × (w .solution ≡ p .n) × (w .pivots ≡ p .n) × (w .diagonal ≡ p .n)
+    → (twiceEnough p lower ≤ 2 * length (stores .lowerSide .subs)) × (twiceEnough p upper ≤ 2 * length (stores .upperSide .subs))
+    → (twiceEnough p lower ≤ 2 * w .lowerSlots) × (twiceEnough p upper ≤ 2 * w .upperSlots)
+    → (length (w .values) ≡ length (p .columns)) × (length (w .right) ≡ p .height) × (w .solution ≡ p .height) × (w .pivots ≡ p .n) × (w .diagonal ≡ p .n)
+    → mayRun p extent ≡ true
     → (allFinite w ≡ true) × (orderFits (patternOf p) choice extent ≡ true)
     → (planned most p stores work ≡ granted (plan (patternOf p)))
     × RunIs p w

@@ -6,7 +6,7 @@ use lib.Dec.{eqb, ltb, leb}
 use lib.Ieee.{Float}
 use lib.ListN.{length, take, drop}
 use Rattle.foundation.specs.Answer.{Answer, refused, granted, refuseIf}
-use Rattle.foundation.specs.Pattern.{Lent, lent}
+use Rattle.foundation.specs.Pattern.{Lent, lentSquare}
 use Rattle.foundation.specs.Numbers.{ofPattern}
 use Rattle.foundation.specs.Reference.{Choice, largest, listed}
 
@@ -50,7 +50,7 @@ choiceOf (p ∷ ps) = listed (p ∷ ps)
 
 unfoldable pub jobOf : Reading → Job
 jobOf r =
-    record { pattern = lent (r .n) (r .starts) (r .columns); values = r .values; right = r .right; choice = choiceOf (r .rows) }
+    record { pattern = lentSquare (r .n) (r .starts) (r .columns); values = r .values; right = r .right; choice = choiceOf (r .rows) }
 
 -- reading goes on with what is left of the bytes, or is over
 pub data Next : Type 0 where

@@ -7,7 +7,7 @@ use lib.IntN.{pos}
 use lib.ListN.{length}
 use Rattle.lists.specs.Sets.{upto}
 use Rattle.foundation.specs.Answer.{Answer}
-use Rattle.foundation.specs.Pattern.{Lent, lent, patternOf, maxN}
+use Rattle.foundation.specs.Pattern.{Lent, lentSquare, patternOf, maxN}
 use Rattle.foundation.specs.Plan.{Planning, lower, upper, plan}
 use Rattle.foundation.specs.Subscripts.{kept, startsStore}
 use Rattle.foundation.specs.Numbers.{bitsOf}
@@ -46,13 +46,13 @@ fourRun choice extent =
 unfoldable pub oneRun : List Float → Answer Ran
 unfolding float
 oneRun values =
-    let p = lent 1 (0 ∷ 1 ∷ []) (1 ∷ []) in
+    let p = lentSquare 1 (0 ∷ 1 ∷ []) (1 ∷ []) in
     ranWith p largest whole (lending p values (float 1 ∷ [])) (plan (patternOf p))
 
 unfoldable pub twoRun : Extent → List Float → Answer Ran
 unfolding float
 twoRun extent values =
-    let p = lent 2 (0 ∷ 2 ∷ 4 ∷ []) (1 ∷ 2 ∷ 1 ∷ 2 ∷ []) in
+    let p = lentSquare 2 (0 ∷ 2 ∷ 4 ∷ []) (1 ∷ 2 ∷ 1 ∷ 2 ∷ []) in
     ranWith p largest extent (lending p values (float 1 ∷ float 1 ∷ [])) (plan (patternOf p))
 
 -- ---- what a row shows
@@ -140,19 +140,19 @@ unfoldable pub also : List Case
 unfolding float
 also =
     -- "Also: (..) 1,025 is 1"
-    case (told (showPlanned 4) (plannedWith (lent 1025 [] []) 2 2)) (refusal 1 0)
+    case (told (showPlanned 4) (plannedWith (lentSquare 1025 [] []) 2 2)) (refusal 1 0)
     -- "2 subscripts a side suffice for the four fields, 1 for L is 7 at step 2"; and 1 for U is 8 at step 2
     ∷ case (told (showPlanned 4) (plannedWith fourFields 2 2)) (grant ((2 ∷ 2 ∷ []) ∷ []))
     ∷ case (told (showPlanned 4) (plannedWith fourFields 1 2)) (refusal 7 2)
     ∷ case (told (showPlanned 4) (plannedWith fourFields 2 1)) (refusal 8 2)
     -- 5 in row 2 goes before 3 in row 3; 3 before 4 at an entry; 5 only at the row's end
-    ∷ case (told (showPlanned 3) (plannedWith (lent 3 (0 ∷ 1 ∷ 2 ∷ 3 ∷ []) (1 ∷ 1 ∷ 4 ∷ [])) 2 2)) (refusal 5 0)
-    ∷ case (told (showPlanned 2) (plannedWith (lent 2 (0 ∷ 2 ∷ 3 ∷ []) (1 ∷ 0 ∷ 2 ∷ [])) 2 2)) (refusal 3 0)
-    ∷ case (told (showPlanned 2) (plannedWith (lent 2 (0 ∷ 1 ∷ 2 ∷ []) (3 ∷ 2 ∷ [])) 2 2)) (refusal 3 0)
+    ∷ case (told (showPlanned 3) (plannedWith (lentSquare 3 (0 ∷ 1 ∷ 2 ∷ 3 ∷ []) (1 ∷ 1 ∷ 4 ∷ [])) 2 2)) (refusal 5 0)
+    ∷ case (told (showPlanned 2) (plannedWith (lentSquare 2 (0 ∷ 2 ∷ 3 ∷ []) (1 ∷ 0 ∷ 2 ∷ [])) 2 2)) (refusal 3 0)
+    ∷ case (told (showPlanned 2) (plannedWith (lentSquare 2 (0 ∷ 1 ∷ 2 ∷ []) (3 ∷ 2 ∷ [])) 2 2)) (refusal 3 0)
     -- t is found against the whole store's end, "whichever list put them there": step 3 shares with the list of step 1, that of step 2 being empty
-    ∷ case (upperSharing (lent 4 (0 ∷ 1 ∷ 2 ∷ 4 ∷ 6 ∷ []) (1 ∷ 2 ∷ 3 ∷ 4 ∷ 1 ∷ 4 ∷ []))) ((4 ∷ []) ∷ (0 ∷ 1 ∷ 0 ∷ 1 ∷ []) ∷ [])
+    ∷ case (upperSharing (lentSquare 4 (0 ∷ 1 ∷ 2 ∷ 4 ∷ 6 ∷ []) (1 ∷ 2 ∷ 3 ∷ 4 ∷ 1 ∷ 4 ∷ []))) ((4 ∷ []) ∷ (0 ∷ 1 ∷ 0 ∷ 1 ∷ []) ∷ [])
     -- and against nothing else: the list of step 3 lies in the middle, and step 4 shares nothing
-    ∷ case (upperSharing (lent 5 (0 ∷ 1 ∷ 3 ∷ 6 ∷ 7 ∷ 9 ∷ []) (1 ∷ 2 ∷ 4 ∷ 1 ∷ 3 ∷ 4 ∷ 4 ∷ 1 ∷ 5 ∷ [])))
+    ∷ case (upperSharing (lentSquare 5 (0 ∷ 1 ∷ 3 ∷ 6 ∷ 7 ∷ 9 ∷ []) (1 ∷ 2 ∷ 4 ∷ 1 ∷ 3 ∷ 4 ∷ 4 ∷ 1 ∷ 5 ∷ [])))
     ((3 ∷ 4 ∷ 5 ∷ 4 ∷ 5 ∷ []) ∷ (0 ∷ 3 ∷ 1 ∷ 4 ∷ 5 ∷ []) ∷ [])
     -- a cut to n steps is no whole run: the solution store has the right side, not the solution
     ∷ case (told (showRight 4) (fourRun largest (cut 4))) (grant ((bits (8 ∷ 7 ∷ []) ++ map (λ k. bitsOf (neg (float k))) (1 ∷ 1 ∷ [])) ∷ []))

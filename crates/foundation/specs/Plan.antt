@@ -1,5 +1,5 @@
 -- The plan of a pattern: the report's symbolic factorization (CS-84-43, section 2), step by step.
-use mathlib.Core.Bool.{Bool, false, cond, not, _||_}
+use mathlib.Core.Bool.{Bool, false, cond, not, _&&_, _||_}
 use mathlib.Core.List.{List, [], _∷_}
 use Prim.Native.Nat.{ℕ, zero, suc, _+_, _-_}
 use lib.Dec.{ltb}
@@ -46,11 +46,11 @@ unfoldable pub fromSteps : Planning → Side → ℕ → List ℕ → List ℕ
 fromSteps s side k gathered = joinAll (λ l. from k (list s side l)) gathered (s .S k)
 
 -- Report, 2.5; document 01: "If L_k has more than one member, k joins S_r, r being the least member of U_k above k".
--- U_k has no member below k, so this is the report's min{t | t ∈ U_k - {k}}. Where it has none above k, r is 0, which is no step.
+-- U_k has no member below k, so this is the report's min{t | t ∈ U_k - {k}}. Document 02, ticket 9: "step k joins no S if U_k has no further member": r is then 0, which is no step.
 unfoldable pub handOn : ℕ → List ℕ → List ℕ → (ℕ → List ℕ) → ℕ → List ℕ
 handOn k lk uk S =
     let r = leastAbove k uk in
-    cond (ltb 1 (length lk)) (update S r (k ∷ S r)) S
+    cond (ltb 1 (length lk) && ltb 0 r) (update S r (k ∷ S r)) S
 
 -- Document 01, "Plan": "Reads is a number in the plan: each C_k once, each R_i once, and L_l and U_l once for each l taken from an S".
 -- What step k reads of the pattern in 2.2, and of earlier lists in 2.4: L_l and U_l whole, l itself and what is below k included.

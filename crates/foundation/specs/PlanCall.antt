@@ -1,5 +1,5 @@
 -- What a planning call answers and leaves in the lent stores, and when a lent plan is this pattern's plan.
-use mathlib.Core.Bool.{Bool, not, _&&_}
+use mathlib.Core.Bool.{Bool, true, not, _&&_}
 use mathlib.Core.List.{List, [], _∷_}
 use Prim.Native.Nat.{ℕ, suc}
 use lib.Dec.{eqb}
@@ -11,9 +11,11 @@ use Rattle.foundation.specs.Plan.{Planning, Side, lower, upper, plan}
 use Rattle.foundation.specs.Subscripts.{shared, startsStore, roomFault}
 use Rattle.foundation.specs.Slots.{slotsOf, slotStarts}
 
--- Document 01, "Fields worked through": "Plan: n, entries, L and U subscripts, L and U slots, reads."
+-- Document 01, "Fields worked through": "Plan: n, entries, L and U subscripts, L and U slots, reads." Document 02, ticket 9: "Let the plan record hold a
+-- row count (..) beside n."
 pub record Counts : Type 0 where
   pub n : ℕ
+  pub height : ℕ
   pub entries : ℕ
   pub lowerSubscripts : ℕ
   pub upperSubscripts : ℕ
@@ -21,9 +23,9 @@ pub record Counts : Type 0 where
   pub upperSlots : ℕ
   pub reads : ℕ
 
--- the seven numbers in that order: in the line `plan`, and wherever counts are told or given as numbers
+-- the eight numbers, the row count behind n, wherever counts are told or given as numbers
 unfoldable pub countNumbers : Counts → List ℕ
-countNumbers c = c .n ∷ c .entries ∷ c .lowerSubscripts ∷ c .upperSubscripts ∷ c .lowerSlots ∷ c .upperSlots ∷ c .reads ∷ []
+countNumbers c = c .n ∷ c .height ∷ c .entries ∷ c .lowerSubscripts ∷ c .upperSubscripts ∷ c .lowerSlots ∷ c .upperSlots ∷ c .reads ∷ []
 
 -- the used part of a side's subscript store
 unfoldable pub subscripts : Planning → Side → ℕ → List ℕ
@@ -34,6 +36,7 @@ unfoldable pub countsOf : Lent → Planning → Counts
 countsOf p s =
     record {
       n = p .n;
+      height = p .height;
       entries = length (p .columns);
       lowerSubscripts = length (subscripts s lower (p .n));
       upperSubscripts = length (subscripts s upper (p .n));
@@ -53,15 +56,15 @@ pub record PlanStores : Type 0 where
   pub lowerSide : SideStores
   pub upperSide : SideStores
 
--- The lengths of the lent work stores, by what docs/ fixes for each: n, n+1 or entries.
+-- The lengths of the lent work stores, by what docs/ fixes for each: the row count, one more, or entries (ticket 9: "work stores (..) go by the row count").
 pub record WorkSizes : Type 0 where
-  pub ofN : List ℕ
-  pub ofNPlusOne : List ℕ
+  pub ofHeight : List ℕ
+  pub ofHeightPlusOne : List ℕ
   pub ofEntries : List ℕ
 
 unfoldable pub workFits : Lent → WorkSizes → Bool
 workFits p work =
-    all (eqb (p .n)) (work .ofN) && (all (eqb (suc (p .n))) (work .ofNPlusOne) && all (eqb (length (p .columns))) (work .ofEntries))
+    all (eqb (p .height)) (work .ofHeight) && (all (eqb (suc (p .height))) (work .ofHeightPlusOne) && all (eqb (length (p .columns))) (work .ofEntries))
 
 -- n starts of lists and n+1 starts of value slots
 unfoldable pub startsSized : Lent → SideStores → Bool
@@ -122,10 +125,11 @@ pub record LentPlan : Type 0 where
 unfoldable pub sameCounts : Counts → Counts → Bool
 sameCounts a b =
     eqb (a .n) (b .n)
+    && (eqb (a .height) (b .height)
     && (eqb (a .entries) (b .entries)
     && (eqb (a .lowerSubscripts) (b .lowerSubscripts)
     && (eqb (a .upperSubscripts) (b .upperSubscripts)
-    && (eqb (a .lowerSlots) (b .lowerSlots) && (eqb (a .upperSlots) (b .upperSlots) && eqb (a .reads) (b .reads))))))
+    && (eqb (a .lowerSlots) (b .lowerSlots) && (eqb (a .upperSlots) (b .upperSlots) && eqb (a .reads) (b .reads)))))))
 
 -- every start, and every subscript that is used
 unfoldable pub sameSide : Planning → Side → ℕ → SideStores → Bool
@@ -140,9 +144,15 @@ agrees p s q =
     sameCounts (q .counts) (countsOf p s)
     && (sameSide s lower (p .n) (q .stores .lowerSide) && sameSide s upper (p .n) (q .stores .upperSide))
 
--- 1 to 5, 6, then 9: this pattern's plan, if the lent one is it.
-unfoldable pub held : ℕ → Lent → LentPlan → WorkSizes → Answer Planning
-held most p q work =
+-- 1 to 5, 6, then 9: this pattern's plan, if the lent one is it. Between them 26, "before 9", where a caller asks for what a tall pattern has not: `may` says
+-- that it does not.
+unfoldable pub heldIf : Bool → ℕ → Lent → LentPlan → WorkSizes → Answer Planning
+heldIf may most p q work =
     andThen (judged most p)
     (λ pattern.
-    refuseIf (not (sizesFit p (q .stores) work)) 6 (refuseIf (not (agrees p (plan pattern) q)) 9 (granted (plan pattern))))
+    refuseIf (not (sizesFit p (q .stores) work)) 6
+    (refuseIf (not may) 26 (refuseIf (not (agrees p (plan pattern) q)) 9 (granted (plan pattern)))))
+
+unfoldable pub held : ℕ → Lent → LentPlan → WorkSizes → Answer Planning
+unfolding heldIf
+held most p q work = heldIf true most p q work

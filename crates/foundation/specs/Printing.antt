@@ -10,7 +10,7 @@ use Rattle.foundation.specs.Answer.{Answer, refused, granted, andThen}
 use Rattle.foundation.specs.Pattern.{Lent}
 use Rattle.foundation.specs.Numbers.{bitsOf}
 use Rattle.foundation.specs.Reference.{whole, Going}
-use Rattle.foundation.specs.PlanCall.{Counts, countNumbers, countsOf, SideStores, PlanStores, WorkSizes, planned}
+use Rattle.foundation.specs.PlanCall.{Counts, countsOf, SideStores, PlanStores, WorkSizes, planned}
 use Rattle.foundation.specs.RunCall.{Lending, Ran, ranWith}
 use Rattle.foundation.specs.Text.{ascii}
 use Rattle.foundation.specs.Job.{Job, maxJobN, readJob}
@@ -23,7 +23,7 @@ jobRoom = 2048
 
 -- the program's own work stores have the lengths that docs/ fixes
 unfoldable pub fittingWork : WorkSizes
-fittingWork = record { ofN = []; ofNPlusOne = []; ofEntries = [] }
+fittingWork = record { ofHeight = []; ofHeightPlusOne = []; ofEntries = [] }
 
 -- stores of a plan for n fields, with so much room for subscripts a side
 unfoldable pub blankSide : ℕ → ℕ → SideStores
@@ -85,9 +85,13 @@ spaced n = ascii " " ++ decimal n
 
 -- ---- lines
 
--- `plan`, n, entries, L and U subscripts, L and U slots, reads
+-- n, entries, L and U subscripts, L and U slots, reads: a job's row count is its n, and is not printed
+unfoldable pub lineNumbers : Counts → List ℕ
+lineNumbers c = c .n ∷ c .entries ∷ c .lowerSubscripts ∷ c .upperSubscripts ∷ c .lowerSlots ∷ c .upperSlots ∷ c .reads ∷ []
+
+-- `plan`, and these
 unfoldable pub planLine : Counts → List ℕ
-planLine c = ascii "plan" ++ chain spaced (countNumbers c) ++ ascii "\n"
+planLine c = ascii "plan" ++ chain spaced (lineNumbers c) ++ ascii "\n"
 
 -- `rows`: "pivot row of each step"
 unfoldable pub rowsLine : List ℕ → List ℕ

@@ -15,7 +15,7 @@ use Rattle.foundation.specs.Numbers.{plusZero, finite}
 use Rattle.foundation.specs.Square.{Square}
 use Rattle.foundation.specs.Reference.{Choice, largest, listed, Extent, whole, cut, Going, Course, going, stopped, noPivot, notFinite, numberOf, reference}
 use Rattle.foundation.specs.Shown.{shown, shownDiagonal}
-use Rattle.foundation.specs.PlanCall.{WorkSizes, LentPlan, held}
+use Rattle.foundation.specs.PlanCall.{WorkSizes, LentPlan, heldIf}
 
 -- the lent values and right side, and the lengths of the lent result stores
 pub record Lending : Type 0 where
@@ -27,12 +27,13 @@ pub record Lending : Type 0 where
   pub lowerSlots : ℕ
   pub upperSlots : ℕ
 
--- Table, 10: "values are not as many as entries, right side, solution, pivot rows or diagonal not n, or slots fewer than planned".
+-- Table, 10: "values are not as many as entries, right side, solution, pivot rows or diagonal not n, or slots fewer than planned"; ticket 9: "right side,
+-- solution store (..) go by the row count".
 unfoldable pub lendingFits : Lent → Planning → Lending → Bool
 lendingFits p s w =
     eqb (length (w .values)) (length (p .columns))
-    && (eqb (length (w .right)) (p .n)
-    && (eqb (w .solution) (p .n)
+    && (eqb (length (w .right)) (p .height)
+    && (eqb (w .solution) (p .height)
     && (eqb (w .pivots) (p .n)
     && (eqb (w .diagonal) (p .n) && (leb (slotsOf s lower (p .n)) (w .lowerSlots) && leb (slotsOf s upper (p .n)) (w .upperSlots))))))
 
@@ -40,7 +41,7 @@ lendingFits p s w =
 unfoldable pub allFinite : Lending → Bool
 allFinite w = all finite (w .values) && all finite (w .right)
 
--- Table, 12: "p_k is below k or above n": the rows that a list names from step k on.
+-- Table, 12: "p_k is below k or above n": the rows that a list names from step k on; ticket 9: "12 taking the row count as the upper bound of p_k".
 unfoldable pub rowsInRange : ℕ → ℕ → List ℕ → Bool
 rowsInRange height k [] = true
 rowsInRange height k (p ∷ ps) = (leb k p && leb p height) && rowsInRange height (suc k) ps
@@ -89,9 +90,14 @@ ranWith p choice extent w s =
     (refuseIf (not (orderFits (patternOf p) choice extent)) 12
     (courseAnswer s (reference choice extent (patternOf p) (valueAt p (w .values)) (rightAt (w .right))))))
 
--- a run on a lent plan: 1 to 6, 9, then the rest
+-- Document 02, ticket 9: "a tall pattern is run only when cut", "solving with more rows than n is 26": whole runs are those of squares.
+unfoldable pub mayRun : Lent → Extent → Bool
+mayRun p whole = leb (p .height) (p .n)
+mayRun p (cut s) = true
+
+-- a run on a lent plan: 1 to 6, 26, 9, then the rest
 unfoldable pub ran : ℕ → Lent → LentPlan → WorkSizes → Choice → Extent → Lending → Answer Ran
-ran most p q work choice extent w = andThen (held most p q work) (ranWith p choice extent w)
+ran most p q work choice extent w = andThen (heldIf (mayRun p extent) most p q work) (ranWith p choice extent w)
 
 -- whether a course stopped with 13
 unfoldable pub lacksPivot : Course → Bool
@@ -141,6 +147,6 @@ runLeaves p w answer =
       lowerSlots = slotsAfter lower (p .n) (w .lowerSlots) answer;
       upperSlots = slotsAfter upper (p .n) (w .upperSlots) answer;
       diagonal = diagonalAfter (p .n) (w .diagonal) answer;
-      solution = solutionAfter (p .n) (w .solution) answer;
+      solution = solutionAfter (p .height) (w .solution) answer;
       pivots = pivotsAfter (w .pivots) answer;
     }

@@ -5,11 +5,11 @@ use mathlib.Core.Path.{_≡_}
 use Prim.Native.Nat.{ℕ}
 use Rattle.lists.specs.Functions.{all, same}
 use Rattle.foundation.specs.Answer.{Answer, refused, granted}
-use Rattle.foundation.specs.Pattern.{Lent, lent}
+use Rattle.foundation.specs.Pattern.{Lent, lentSquare}
 
 -- "Four fields; rows {1,3}, {2,4}, {1,3}, {2,3,4}; values (2,1), (1,1), (4,4), (2,1,4); right side 3, 2, 8, 7."
 unfoldable pub fourFields : Lent
-fourFields = lent 4 (0 ∷ 2 ∷ 4 ∷ 6 ∷ 9 ∷ []) (1 ∷ 3 ∷ 2 ∷ 4 ∷ 1 ∷ 3 ∷ 2 ∷ 3 ∷ 4 ∷ [])
+fourFields = lentSquare 4 (0 ∷ 2 ∷ 4 ∷ 6 ∷ 9 ∷ []) (1 ∷ 3 ∷ 2 ∷ 4 ∷ 1 ∷ 3 ∷ 2 ∷ 3 ∷ 4 ∷ [])
 
 -- 0 and the number and step of a refusal, or 1 and what was granted
 unfoldable pub told : {A : Type 0} → (A → List (List ℕ)) → Answer A → List (List ℕ)

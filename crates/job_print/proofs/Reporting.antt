@@ -7,10 +7,10 @@ use lib.Ieee.{Float}
 use Rattle.lists.specs.Functions.{chain}
 use Rattle.lists.specs.Sets.{run, upto}
 use Rattle.foundation.specs.Pattern.{Lent}
-use Rattle.foundation.specs.PlanCall.{countNumbers, countsOf}
+use Rattle.foundation.specs.PlanCall.{countsOf}
 use Rattle.foundation.specs.Reference.{Going}
 use Rattle.foundation.specs.RunCall.{Ran}
-use Rattle.foundation.specs.Printing.{spaced, planLine, rowsLine, solutionLine, updatesLine, refusedLine, report}
+use Rattle.foundation.specs.Printing.{spaced, lineNumbers, planLine, rowsLine, solutionLine, updatesLine, refusedLine, report}
 use Rattle.foundation.specs.Text.{ascii}
 use Rattle.foundation.specs.Job.{maxJobN}
 use Rattle.job_sizes.specs.Sizes.{answerRoom}
@@ -38,7 +38,7 @@ solution-lines g row zero = refl
 solution-lines g row (suc count) = rw (solution-lines g (suc row) count)
 
 -- the word `plan` and its counts
-plan-put : {was now : List ℕ} {r : ℕ} (p : Lent) (ran : Ran) (counts : List ℕ) → counts ≡ countNumbers (countsOf p (ran .plan))
+plan-put : {was now : List ℕ} {r : ℕ} (p : Lent) (ran : Ran) (counts : List ℕ) → counts ≡ lineNumbers (countsOf p (ran .plan))
     → Appended was 0 (numbersLine (112 ∷ 108 ∷ 97 ∷ 110 ∷ []) counts) now r → Appended was 0 (planLine (countsOf p (ran .plan))) now r
 unfolding numbersLine planLine ascii
 plan-put p ran counts e a = rw e at a

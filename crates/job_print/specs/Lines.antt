@@ -7,9 +7,9 @@ use Rattle.lists.specs.Functions.{chain}
 use Rattle.lists.specs.Sets.{upto}
 use Rattle.foundation.specs.Numbers.{bitsOf}
 use Rattle.foundation.specs.Pattern.{Lent}
-use Rattle.foundation.specs.PlanCall.{countNumbers, countsOf}
+use Rattle.foundation.specs.PlanCall.{countsOf}
 use Rattle.foundation.specs.RunCall.{Ran}
-use Rattle.foundation.specs.Printing.{spaced, hexBits}
+use Rattle.foundation.specs.Printing.{spaced, hexBits, lineNumbers}
 use Rattle.foundation.specs.Text.{ascii}
 
 -- A word and numbers: the form of `planLine`, `rowsLine`, `updatesLine` and `refusedLine` (document 01, "Fields worked through").
@@ -27,7 +27,7 @@ valueLines row (x ∷ xs) = valueLine row x ++ valueLines (suc row) xs
 
 -- what is to be reported is this finished run of p
 pub record Finished (p : Lent) (ran : Ran) (counts pivots : List ℕ) (solution : List Float) (updates : ℕ) : Type 0 where
-  pub counted : counts ≡ countNumbers (countsOf p (ran .plan))
+  pub counted : counts ≡ lineNumbers (countsOf p (ran .plan))
   pub chosen : pivots ≡ ran .end .pivots
   pub solved : solution ≡ map (ran .end .right) (upto (p .n))
   pub summed : updates ≡ ran .end .updates

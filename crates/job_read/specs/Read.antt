@@ -3,7 +3,7 @@ use Prim.Native.Nat.{ℕ, suc, _≤_}
 use lib.ListN.{take}
 use Rattle.foundation.specs.Answer.{Answer, refused, granted}
 use Rattle.foundation.specs.Job.{Job, choiceOf, maxJobN}
-use Rattle.foundation.specs.Pattern.{lent}
+use Rattle.foundation.specs.Pattern.{lentSquare}
 use Rattle.job_sizes.specs.Sizes.{jobEntries}
 pub use Rattle.job_commands.specs.Stores.{JobStores, storesOf, Sized}
 use Rattle.job_read.specs.declared.Sizes.{Sizes}
@@ -14,7 +14,7 @@ use Rattle.job_read.specs.declared.JobRead.the-variants.{Refused, Read}
 unfoldable pub jobIn : Sizes → JobStores → Job
 jobIn z s =
     record {
-      pattern = lent (z .n) (take (suc (z .n)) (s .starts)) (take (z .entries) (s .columns));
+      pattern = lentSquare (z .n) (take (suc (z .n)) (s .starts)) (take (z .entries) (s .columns));
       values = take (z .entries) (s .values);
       right = take (z .n) (s .right);
       choice = choiceOf (take (z .chosen) (s .rows));

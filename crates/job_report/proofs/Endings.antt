@@ -7,8 +7,8 @@ use lib.Ieee.{Float}
 use Rattle.foundation.specs.Answer.{Answer, refused, granted, andThen}
 use Rattle.foundation.specs.Pattern.{Lent}
 use Rattle.foundation.specs.Plan.{Planning}
-use Rattle.foundation.specs.PlanCall.{countNumbers, planAnswer}
-use Rattle.foundation.specs.Printing.{answerText, report, refusedLine}
+use Rattle.foundation.specs.PlanCall.{planAnswer}
+use Rattle.foundation.specs.Printing.{answerText, lineNumbers, report, refusedLine}
 use Rattle.foundation.specs.RunCall.{Ran, runAnswer}
 use Rattle.foundation.proofs.Stores.{refused-from}
 use Rattle.answers.specs.Answers.{countsIn}
@@ -46,12 +46,12 @@ finished (granted r) updates e = (r, refl, cc)
 
 module _ {was now : List ℕ} {end : ℕ} (p : Lent) (a : Answer Ran) (counts : PlanCounts) (answer : RunAnswer) (pivots : List ℕ) (x : List Float) (h : Reported p a counts answer pivots x) where
   -- a finished run
-  pub finished-put : (updates : ℕ) (line : List ℕ) → answer .outcome ≡ RunFinished updates → line ≡ countNumbers (countsIn counts)
+  pub finished-put : (updates : ℕ) (line : List ℕ) → answer .outcome ≡ RunFinished updates → line ≡ lineNumbers (countsIn counts)
       → ((r : Ran) → Finished p r line pivots x updates → Appended was 0 (report p r) now end) → Appended was 0 (answerText p a) now end
   unfolding runAnswerOf outcomeOf answerText
   finished-put updates line e f put =
       let (r, is, sum) = finished a updates (rw e at (h .answered)) in
-      rw is (put r (record { counted = f ∙ ap countNumbers (h .counted r is); chosen = h .chosen r is; solved = h .solved r is; summed = sum }))
+      rw is (put r (record { counted = f ∙ ap lineNumbers (h .counted r is); chosen = h .chosen r is; solved = h .solved r is; summed = sum }))
 
   -- a run that stopped
   pub stopped-put : (reason : RunReason) (step number : ℕ) → answer .outcome ≡ Stopped reason step → number ≡ reasonNumber reason

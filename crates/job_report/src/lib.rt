@@ -7,10 +7,10 @@ ghost use Rattle.foundation.specs.Pattern.{Lent};
 ghost use Rattle.foundation.specs.Plan.{Planning};
 ghost use Rattle.foundation.specs.PlanCall.{planAnswer};
 ghost use Rattle.foundation.specs.RunCall.{Ran};
-ghost use Rattle.foundation.specs.Printing.{answerText};
+ghost use Rattle.foundation.specs.Printing.{answerText, lineNumbers};
 ghost use Rattle.foundation.specs.Job.{maxJobN};
 ghost use Rattle.job_sizes.specs.Sizes.{answerRoom};
-ghost use Rattle.answers.specs.Answers.{refusalOf};
+ghost use Rattle.answers.specs.Answers.{countsIn, refusalOf};
 ghost use Rattle.job_print.specs.Appended.{Appended};
 ghost use Rattle.job_report.specs.Reported.{Reported};
 use answers::PlanCounts;
@@ -19,7 +19,6 @@ use answers::RunAnswer;
 use answers::RunOutcome;
 use job_print::put_refused;
 use job_print::put_report;
-use numbers::count_numbers;
 use numbers::number_and_step;
 use numbers::number_of;
 
@@ -31,6 +30,21 @@ pub fn put_plan_refused(out: &mut [u8], refusal: Refusal) -> usize
 {
     let refused = number_and_step(refusal);
     put_refused(out, refused.number, refused.step)
+}
+
+// The numbers of the line `plan`: the row count of a job is its n, and is not printed.
+fn line_numbers(c: PlanCounts) -> [usize; 7]
+    ensures { λ r. ⌜ r ≡ lineNumbers (countsIn c) ⌝ }
+{
+    [
+        c.n,
+        c.entries,
+        c.l_subscripts,
+        c.u_subscripts,
+        c.l_slots,
+        c.u_slots,
+        c.reads,
+    ]
 }
 
 // The report of a run on a plan with these counts, or the line of its refusal.
@@ -48,7 +62,7 @@ pub fn put_ran(
     let outcome = answer.outcome;
     match outcome {
         RunOutcome::Finished(updates) => {
-            let line = count_numbers(counts);
+            let line = line_numbers(counts);
             put_report(out, &line, pivots, x, updates)
         }
         RunOutcome::Stopped(reason, step) => put_refused(out, number_of(reason), step),

@@ -7,7 +7,7 @@ use lib.ListN.{length, length-replicate}
 use borrow.Author.Tests.{eq-eqb}
 use Rattle.foundation.specs.Answer.{Answer}
 use Rattle.foundation.specs.Job.{maxJobN}
-use Rattle.foundation.specs.Pattern.{Lent, lent}
+use Rattle.foundation.specs.Pattern.{Lent, lent, lentSquare}
 use Rattle.foundation.specs.Plan.{Planning}
 use Rattle.foundation.specs.PlanCall.{SideStores, PlanStores, WorkSizes, planned, planLeaves, sideAfter, subscriptsAfter, startsAfter, slotStartsAfter, startsSized, workFits, sizesFit}
 use Rattle.foundation.specs.Printing.{jobRoom, fittingWork, blankSide, blankStores}
@@ -64,7 +64,7 @@ module _ (p : Lent) where
 
 -- what `plan` leaves is the job's plan
 pub job-planned : (r : PlanAnswer) (n : ℕ) (starts columns : List ℕ) (stores stores′ : PlanStores) (work′ : WorkStores) → n ≤ maxJobN → PlanSized n stores
-    → PlanKept r maxJobN (lent n starts columns) stores stores′ (fronts n) work′ → JobPlanned r (lent n starts columns) stores′
+    → PlanKept r maxJobN (lentSquare n starts columns) stores stores′ (fronts n) work′ → JobPlanned r (lentSquare n starts columns) stores′
 unfolding lent
 job-planned r n starts columns stores stores′ work′ small sized kept =
-    plan-done (lent n starts columns) stores sized r stores′ (fronts n) work′ (fronts-fit (lent n starts columns) small) kept
+    plan-done (lentSquare n starts columns) stores sized r stores′ (fronts n) work′ (fronts-fit (lentSquare n starts columns) small) kept

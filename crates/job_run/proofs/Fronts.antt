@@ -31,25 +31,25 @@ module _ {A : Type 0} where
       rw (sub-zero m) (length-take-le m (replicate room blank) k)
 
 -- planning's work stores fit
-plan-fits : (p : Lent) (work : WorkStores) → length (work .list) ≡ p .n → length (work .spare) ≡ p .n → length (work .rowHeads) ≡ p .n + 1
-    → length (work .rowLinks) ≡ p .n + 1 → length (work .setHeads) ≡ p .n + 1 → length (work .setLinks) ≡ p .n + 1 → workFits p (workSizes work) ≡ true
+plan-fits : (p : Lent) (work : WorkStores) → length (work .list) ≡ p .height → length (work .spare) ≡ p .height → length (work .rowHeads) ≡ p .height + 1
+    → length (work .rowLinks) ≡ p .height + 1 → length (work .setHeads) ≡ p .height + 1 → length (work .setLinks) ≡ p .height + 1 → workFits p (workSizes work) ≡ true
 unfolding workFits all
 plan-fits p work a b c d e f =
     rw (
-      eq-eqb (p .n) (length (work .list)) (sym a),
-      eq-eqb (p .n) (length (work .spare)) (sym b),
-      eq-eqb (suc (p .n)) (length (work .rowHeads)) (omega arith),
-      eq-eqb (suc (p .n)) (length (work .rowLinks)) (omega arith),
-      eq-eqb (suc (p .n)) (length (work .setHeads)) (omega arith),
-      eq-eqb (suc (p .n)) (length (work .setLinks)) (omega arith),
+      eq-eqb (p .height) (length (work .list)) (sym a),
+      eq-eqb (p .height) (length (work .spare)) (sym b),
+      eq-eqb (suc (p .height)) (length (work .rowHeads)) (omega arith),
+      eq-eqb (suc (p .height)) (length (work .rowLinks)) (omega arith),
+      eq-eqb (suc (p .height)) (length (work .setHeads)) (omega arith),
+      eq-eqb (suc (p .height)) (length (work .setLinks)) (omega arith),
     )
 
 -- and two more for a run
-more-fit : (p : Lent) (ofN ofMore : List ℕ) (copy dense : ℕ) → all (eqb (p .n)) ofN ≡ true → all (eqb (suc (p .n))) ofMore ≡ true → copy ≡ p .n → dense ≡ p .n + 1
-    → workFits p (record { ofN = ofN ++ (copy ∷ []); ofNPlusOne = ofMore ++ (dense ∷ []); ofEntries = [] }) ≡ true
+more-fit : (p : Lent) (ofEach ofMore : List ℕ) (copy dense : ℕ) → all (eqb (p .height)) ofEach ≡ true → all (eqb (suc (p .height))) ofMore ≡ true → copy ≡ p .height → dense ≡ p .height + 1
+    → workFits p (record { ofHeight = ofEach ++ (copy ∷ []); ofHeightPlusOne = ofMore ++ (dense ∷ []); ofEntries = [] }) ≡ true
 unfolding workFits all
-more-fit p ofN ofMore copy dense a b c d =
-    rw (all-more (p .n) ofN copy a (eq-eqb (p .n) copy (sym c)), all-more (suc (p .n)) ofMore dense b (eq-eqb (suc (p .n)) dense (omega arith)))
+more-fit p ofEach ofMore copy dense a b c d =
+    rw (all-more (p .height) ofEach copy a (eq-eqb (p .height) copy (sym c)), all-more (suc (p .height)) ofMore dense b (eq-eqb (suc (p .height)) dense (omega arith)))
   where
     all-more : (n : ℕ) (xs : List ℕ) (x : ℕ) → all (eqb n) xs ≡ true → eqb n x ≡ true → all (eqb n) (xs ++ (x ∷ [])) ≡ true
     all-more n [] x a b = rw b
@@ -62,23 +62,23 @@ fronts n =
     let same : List ℕ = front 0 n maxJobN in
     workStores more more more more same same
 
-pub fronts-fit : (p : Lent) → p .n ≤ maxJobN → workFits p (workSizes (fronts (p .n))) ≡ true
+pub fronts-fit : (p : Lent) → p .height ≤ maxJobN → workFits p (workSizes (fronts (p .height))) ≡ true
 fronts-fit p h =
-    let more = front-length {A = ℕ} 0 (p .n + 1) moreThanN (omega arith) in
-    let same = front-length {A = ℕ} 0 (p .n) maxJobN h in
-    plan-fits p (fronts (p .n)) same same more more more more
+    let more = front-length {A = ℕ} 0 (p .height + 1) moreThanN (omega arith) in
+    let same = front-length {A = ℕ} 0 (p .height) maxJobN h in
+    plan-fits p (fronts (p .height)) same same more more more more
 
 abbrev pub runFronts : Float → ℕ → RunWork
 runFronts blank n = record { planning = fronts n; copy = front blank n maxJobN; dense = front blank (n + 1) moreThanN }
 
-pub run-fronts-fit : (p : Lent) (blank : Float) → p .n ≤ maxJobN → workFits p (runWorkSizes (runFronts blank (p .n))) ≡ true
+pub run-fronts-fit : (p : Lent) (blank : Float) → p .height ≤ maxJobN → workFits p (runWorkSizes (runFronts blank (p .height))) ≡ true
 unfolding workFits
 run-fronts-fit p blank h =
-    let w = workSizes (fronts (p .n)) in
+    let w = workSizes (fronts (p .height)) in
     let fit : workFits p w ≡ true = fronts-fit p h in
-    let a : all (eqb (p .n)) (w .ofN) ≡ true = and-left (all (eqb (p .n)) (w .ofN)) _ fit in
-    let b : all (eqb (suc (p .n))) (w .ofNPlusOne) ≡ true = and-left (all (eqb (suc (p .n))) (w .ofNPlusOne)) _ (and-right (all (eqb (p .n)) (w .ofN)) _ fit) in
-    more-fit p (w .ofN) (w .ofNPlusOne) (length (front blank (p .n) maxJobN)) (length (front blank (p .n + 1) moreThanN)) a b (front-length blank (p .n) maxJobN h) (front-length blank (p .n + 1) moreThanN (omega arith))
+    let a : all (eqb (p .height)) (w .ofHeight) ≡ true = and-left (all (eqb (p .height)) (w .ofHeight)) _ fit in
+    let b : all (eqb (suc (p .height))) (w .ofHeightPlusOne) ≡ true = and-left (all (eqb (suc (p .height))) (w .ofHeightPlusOne)) _ (and-right (all (eqb (p .height)) (w .ofHeight)) _ fit) in
+    more-fit p (w .ofHeight) (w .ofHeightPlusOne) (length (front blank (p .height) maxJobN)) (length (front blank (p .height + 1) moreThanN)) a b (front-length blank (p .height) maxJobN h) (front-length blank (p .height + 1) moreThanN (omega arith))
 
 -- no work stores fit too
 pub fitting-fits : (p : Lent) → workFits p fittingWork ≡ true

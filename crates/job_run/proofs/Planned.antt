@@ -1,14 +1,16 @@
 -- The plan that was made is the job's, and a run on it is the job's run.
 use mathlib.Core.Path.{_≡_, refl, sym, ap, _∙_}
 use Prim.Native.Nat.{ℕ}
+use native.Mathlib.Nat.{le-of-eq}
 use native.Mathlib.Omega.{arith}
+use borrow.Author.Tests.{le-leb}
 use Rattle.foundation.specs.Answer.{Answer, refused, granted, andThen}
 use Rattle.foundation.specs.Job.{Job, maxJobN}
 use Rattle.foundation.specs.Pattern.{Lent}
 use Rattle.foundation.specs.Plan.{Planning}
 use Rattle.foundation.specs.PlanCall.{Counts, countsOf, PlanStores, LentPlan, planAnswer, planLeaves, held}
 use Rattle.foundation.specs.Printing.{jobRoom, fittingWork, blankStores, jobStores, jobLending, jobRun}
-use Rattle.foundation.specs.RunCall.{ran}
+use Rattle.foundation.specs.RunCall.{mayRun, ran}
 use Rattle.foundation.specs.Claims.{PlanAccepted}
 use Rattle.foundation.proofs.Accepted.{plan-accepted}
 use Rattle.answers.specs.Answers.{countsIn, answerOf, refusalOf}
@@ -51,20 +53,20 @@ held-from p counts stores s e c f =
     let q : _≡_ {A = LentPlan} (record { counts = countsIn counts; stores = stores }) (record { counts = countsOf p s; stores = planLeaves p (granted s) (blankStores (p .n) jobRoom jobRoom) }) = rw (c, f′) in
     ap (λ (x : LentPlan). held maxJobN p x fittingWork) q ∙ plan-accepted maxJobN p (blankStores (p .n) jobRoom jobRoom) fittingWork fittingWork s e (fitting-fits p)
 
-ran-from : (job : Job) (q : LentPlan) (s : Planning) → held maxJobN (job .pattern) q fittingWork ≡ granted s → jobPlan (job .pattern) ≡ granted s
+ran-from : (job : Job) (q : LentPlan) (s : Planning) → job .pattern .height ≡ job .pattern .n → held maxJobN (job .pattern) q fittingWork ≡ granted s → jobPlan (job .pattern) ≡ granted s
     → jobRan (job .pattern) q (job .choice) (job .values) (job .right) ≡ jobRun job
-unfolding jobRan ran jobRun jobPlan andThen lentFor jobStores jobLending
-ran-from job q s h e = rw (h, e)
+unfolding jobRan ran mayRun held jobRun jobPlan andThen lentFor jobStores jobLending
+ran-from job q s square h e = rw (le-leb (job .pattern .height) (job .pattern .n) (le-of-eq square), h, e)
 
 abbrev known : (p : Lent) (counts : PlanCounts) (stores : PlanStores) → PlanMade p counts stores → Made p (countsIn counts) (jobPlan p)
 known p counts stores made = made-from p (countsIn counts) (jobPlan p) (made .counted)
 
 -- a run on the plan that was made is the job's run
-pub ran-is : (job : Job) (counts : PlanCounts) (stores : PlanStores) → PlanMade (job .pattern) counts stores
+pub ran-is : (job : Job) (counts : PlanCounts) (stores : PlanStores) → job .pattern .height ≡ job .pattern .n → PlanMade (job .pattern) counts stores
     → jobRan (job .pattern) (lentPlan counts stores) (job .choice) (job .values) (job .right) ≡ jobRun job
-ran-is job counts stores made =
+ran-is job counts stores square made =
     let k = known (job .pattern) counts stores made in
-    ran-from job (lentPlan counts stores) (k .s) (held-from (job .pattern) counts stores (k .s) (k .is) (k .counts-are) (made .stored)) (k .is)
+    ran-from job (lentPlan counts stores) (k .s) square (held-from (job .pattern) counts stores (k .s) (k .is) (k .counts-are) (made .stored)) (k .is)
 
 -- the counts that were answered are the plan's
 pub counts-are : (p : Lent) (counts : PlanCounts) (stores : PlanStores) → PlanMade p counts stores → (s : Planning) → jobPlan p ≡ granted s → countsIn counts ≡ countsOf p s

@@ -22,15 +22,15 @@ use Rattle.job_run.proofs.Ending.{went, pivots-shown, solution-shown}
 -- ---- the run
 
 -- what is in hand when the run is over is the job's run
-pub run-reported : (job : Job) (counts : PlanCounts) (stores : PlanStores) → PlanMade (job .pattern) counts stores → (a : RunAnswer) (x : List Float) (pivots : List ℕ)
+pub run-reported : (job : Job) (counts : PlanCounts) (stores : PlanStores) → job .pattern .height ≡ job .pattern .n → PlanMade (job .pattern) counts stores → (a : RunAnswer) (x : List Float) (pivots : List ℕ)
     → JobRan a (job .pattern) (lentPlan counts stores) (job .choice) (job .values) (job .right) x pivots → Reported (job .pattern) (jobRun job) counts a pivots x
-run-reported job counts stores made a x pivots ran =
-    let same = ran-is job counts stores made in
+run-reported job counts stores square made a x pivots ran =
+    let same = ran-is job counts stores square made in
     record {
       answered = ran .answered ∙ ap runAnswer same;
       counted = λ r is. counts-are (job .pattern) counts stores made (r .plan) (went job r is .planned-so);
       chosen = λ r is. ran .chosen ∙ rw (same ∙ is) (pivots-shown (job .pattern .n) r (went job r is .a-row-a-step));
-      solved = λ r is. ran .solved ∙ rw (same ∙ is) (solution-shown (job .pattern .n) r);
+      solved = λ r is. ran .solved ∙ rw (same ∙ is, square) (solution-shown (job .pattern .n) r);
     }
 
 -- ---- the plan

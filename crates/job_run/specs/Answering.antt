@@ -5,7 +5,7 @@ use Prim.Native.Nat.{ℕ}
 use lib.Ieee.{Float}
 use Rattle.foundation.specs.Answer.{granted}
 use Rattle.foundation.specs.Job.{Job, choiceOf}
-use Rattle.foundation.specs.Pattern.{Lent, lent}
+use Rattle.foundation.specs.Pattern.{Lent, lentSquare}
 use Rattle.foundation.specs.PlanCall.{PlanStores, planAnswer, planLeaves}
 use Rattle.foundation.specs.Printing.{jobRoom, blankStores}
 use Rattle.answers.specs.Answers.{countsIn}
@@ -14,7 +14,7 @@ use Rattle.job_run.specs.Lending.{jobPlan}
 
 -- the job of these lists
 unfoldable pub jobFrom : ℕ → (starts columns : List ℕ) (values right : List Float) (rows : List ℕ) → Job
-jobFrom n starts columns values right rows = record { pattern = lent n starts columns; values = values; right = right; choice = choiceOf rows }
+jobFrom n starts columns values right rows = record { pattern = lentSquare n starts columns; values = values; right = right; choice = choiceOf rows }
 
 -- these counts and stores are the job's plan
 pub record PlanMade (p : Lent) (counts : PlanCounts) (stores : PlanStores) : Type 0 where

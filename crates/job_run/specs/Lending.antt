@@ -63,5 +63,5 @@ jobRan p q choice values right = ran maxJobN p q fittingWork choice whole (lentF
 -- the answer, the solution and the pivot rows are that run's
 pub record JobRan (r : RunAnswer) (p : Lent) (q : LentPlan) (choice : Choice) (values right x : List Float) (pivots : List ℕ) : Type 0 where
   pub answered : runAnswerOf r ≡ runAnswer (jobRan p q choice values right)
-  pub solved : x ≡ solutionAfter (p .n) (p .n) (jobRan p q choice values right)
+  pub solved : x ≡ solutionAfter (p .height) (p .n) (jobRan p q choice values right)
   pub chosen : pivots ≡ pivotsAfter (p .n) (jobRan p q choice values right)

@@ -3,7 +3,7 @@
 ghost use mathlib.Core.Path.{_≡_};
 ghost use Prim.Native.Nat.{_≤_};
 ghost use Rattle.foundation.specs.Job.{choiceOf, maxJobN};
-ghost use Rattle.foundation.specs.Pattern.{lent};
+ghost use Rattle.foundation.specs.Pattern.{lentSquare};
 ghost use Rattle.answers.specs.Stores.{planStores, lentPlan};
 ghost use Rattle.answers.specs.Runs.{chosenBy};
 ghost use Rattle.job_run.specs.Lending.{PlanSized, JobPlanned, RunSized, JobRan};
@@ -34,7 +34,7 @@ fn plan_job(
     u_slots: &mut [usize],
 ) -> PlanAnswer
     requires { ⌜ (n ≤ maxJobN) × PlanSized n (planStores (now «l_subs») (now «l_starts») (now «l_slots») (now «u_subs») (now «u_starts») (now «u_slots»)) ⌝ }
-    ensures { λ r. ⌜ JobPlanned r (lent n (now (starts .entry)) (now (columns .entry)))
+    ensures { λ r. ⌜ JobPlanned r (lentSquare n (now (starts .entry)) (now (columns .entry)))
         (planStores (now («l_subs» .exit)) (now («l_starts» .exit)) (now («l_slots» .exit))
         (now («u_subs» .exit)) (now («u_starts» .exit)) (now («u_slots» .exit))) ⌝ }
 {
@@ -47,6 +47,7 @@ fn plan_job(
     let more = n + 1;
     plan(
         LARGEST_N,
+        n,
         n,
         starts,
         columns,
@@ -97,7 +98,7 @@ fn run_job(
     pivots: &mut [usize],
 ) -> RunAnswer
     requires { ⌜ (n ≤ maxJobN) × RunSized n (now l) (now u) (now d) (now x) (now pivots) ⌝ }
-    ensures { λ r. ⌜ JobRan r (lent n (now (starts .entry)) (now (columns .entry)))
+    ensures { λ r. ⌜ JobRan r (lentSquare n (now (starts .entry)) (now (columns .entry)))
         (lentPlan counts
         (planStores (now («l_subs» .entry)) (now («l_starts» .entry)) (now («l_slots» .entry))
         (now («u_subs» .entry)) (now («u_starts» .entry)) (now («u_slots» .entry))))
@@ -115,6 +116,7 @@ fn run_job(
     let choice = choice_for(rows);
     run(
         LARGEST_N,
+        n,
         n,
         starts,
         columns,

@@ -2,7 +2,7 @@
 ghost use Prim.Native.Nat.{_≤_};
 ghost use lib.ListN.{length};
 ghost use Rattle.foundation.specs.Answer.{granted};
-ghost use Rattle.foundation.specs.Pattern.{lent};
+ghost use Rattle.foundation.specs.Pattern.{lentSquare};
 ghost use Rattle.foundation.specs.Printing.{jobText};
 ghost use Rattle.foundation.specs.Job.{maxJobN};
 ghost use Rattle.job_sizes.specs.Sizes.{answerRoom};
@@ -43,7 +43,7 @@ fn put_run_in(
     pivots: &mut [usize],
 ) -> usize
     requires { ⌜ (answerRoom ≤ length (now out)) × (n ≤ maxJobN)
-        × PlanMade (lent n (now starts) (now columns)) counts
+        × PlanMade (lentSquare n (now starts) (now columns)) counts
         (planStores (now «l_subs») (now «l_starts») (now «l_slots») (now «u_subs») (now «u_starts») (now «u_slots»))
         × RunSized n (now l) (now u) (now d) (now x) (now pivots) ⌝ }
     ensures { λ r. ⌜ Appended (now (out .entry)) 0
@@ -91,7 +91,7 @@ fn put_run(
     u_slots: &[usize],
 ) -> usize
     requires { ⌜ (answerRoom ≤ length (now out)) × (n ≤ maxJobN)
-        × PlanMade (lent n (now starts) (now columns)) counts
+        × PlanMade (lentSquare n (now starts) (now columns)) counts
         (planStores (now «l_subs») (now «l_starts») (now «l_slots») (now «u_subs») (now «u_starts») (now «u_slots»)) ⌝ }
     ensures { λ r. ⌜ Appended (now (out .entry)) 0
         (jobText (granted (jobFrom n (now (starts .entry)) (now (columns .entry)) (now (values .entry)) (now (right .entry)) (now (rows .entry)))))

@@ -4,7 +4,7 @@ use Rattle.foundation.specs.Answer.{Answer, refused, granted, andThen}
 use Rattle.foundation.specs.PlanCall.{Counts}
 use Rattle.answers.specs.Answers.{refusalOf}
 use Rattle.answers.specs.declared.Refusal.{Refusal}
-use Rattle.answers.specs.declared.Refusal.the-variants.{Limits, Starts, Column, Order, Diagonal, Stores, LowerRoom, UpperRoom, OtherPlan}
+use Rattle.answers.specs.declared.Refusal.the-variants.{Limits, Height, Starts, Column, Order, Diagonal, Stores, LowerRoom, UpperRoom, OtherPlan}
 use Rattle.numbers.specs.Numbered.{refusalBy}
 use Rattle.numbers.specs.declared.refusals.NumberAndStep.{NumberAndStep}
 
@@ -14,6 +14,7 @@ without a = andThen a (λ c. granted tt)
 same-refusal : (r : Refusal) → without (refusalOf r) ≡ refusalOf r
 unfolding refusalOf andThen
 same-refusal Limits = refl
+same-refusal Height = refl
 same-refusal Starts = refl
 same-refusal Column = refl
 same-refusal Order = refl

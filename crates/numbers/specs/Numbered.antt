@@ -63,9 +63,9 @@ writeNumbers = numbersOf offsetNumbers
 unfoldable pub cutOrPadded : ℕ → List ℕ → List ℕ
 cutOrPadded room xs = take room (padded 0 room xs)
 
--- the seven counts, in the order of `countNumbers`; missing ones are 0, further ones are not read
+-- the eight counts, in the order of `countNumbers`; missing ones are 0, further ones are not read
 unfoldable pub countsFrom : List ℕ → Counts
-countsFrom xs = counted (getD xs 0 0) (getD xs 1 0) (getD xs 2 0) (getD xs 3 0) (getD xs 4 0) (getD xs 5 0) (getD xs 6 0)
+countsFrom xs = counted (getD xs 0 0) (getD xs 1 0) (getD xs 2 0) (getD xs 3 0) (getD xs 4 0) (getD xs 5 0) (getD xs 6 0) (getD xs 7 0)
 
 -- "A run may be cut to its first s steps": whole where `shorter` is 0
 unfoldable pub extentFrom : ℕ → ℕ → Extent

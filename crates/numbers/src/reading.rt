@@ -17,19 +17,21 @@ pub fn number_at(numbers: &[usize], t: usize) -> usize
     0
 }
 
-// The seven counts of a plan. Missing ones read as 0, further ones are not read.
+// The eight counts of a plan. Missing ones read as 0, further ones are not read.
 pub fn counts_from(numbers: &[usize]) -> PlanCounts
     ensures { λ r. ⌜ countsIn r ≡ countsFrom (now (numbers .entry)) ⌝ }
 {
     let n = number_at(numbers, 0);
-    let entries = number_at(numbers, 1);
-    let l_subscripts = number_at(numbers, 2);
-    let u_subscripts = number_at(numbers, 3);
-    let l_slots = number_at(numbers, 4);
-    let u_slots = number_at(numbers, 5);
-    let reads = number_at(numbers, 6);
+    let height = number_at(numbers, 1);
+    let entries = number_at(numbers, 2);
+    let l_subscripts = number_at(numbers, 3);
+    let u_subscripts = number_at(numbers, 4);
+    let l_slots = number_at(numbers, 5);
+    let u_slots = number_at(numbers, 6);
+    let reads = number_at(numbers, 7);
     PlanCounts {
         n,
+        height,
         entries,
         l_subscripts,
         u_subscripts,

@@ -18,6 +18,10 @@ pub fn number_and_step(r: Refusal) -> NumberAndStep
 {
     match r {
         Refusal::Limits => NumberAndStep { number: 1, step: 0 },
+        Refusal::Height => NumberAndStep {
+            number: 25,
+            step: 0,
+        },
         Refusal::Starts => NumberAndStep { number: 2, step: 0 },
         Refusal::Column => NumberAndStep { number: 3, step: 0 },
         Refusal::Order => NumberAndStep { number: 4, step: 0 },
@@ -35,11 +39,13 @@ pub fn number_of(reason: RunReason) -> usize
 {
     match reason {
         RunReason::Limits => 1,
+        RunReason::Height => 25,
         RunReason::Starts => 2,
         RunReason::Column => 3,
         RunReason::Order => 4,
         RunReason::Diagonal => 5,
         RunReason::Stores => 6,
+        RunReason::Tall => 26,
         RunReason::OtherPlan => 9,
         RunReason::Lending => 10,
         RunReason::Values => 11,

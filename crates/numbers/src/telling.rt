@@ -23,7 +23,7 @@ use answers::VerifyAnswer;
 use answers::WriteAnswer;
 use tally::TallyAnswer;
 
-// Nine numbers: 0, 0 and the seven counts, or the refusal.
+// Ten numbers: 0, 0 and the eight counts, or the refusal.
 pub fn tell_plan(answered: PlanAnswer, answer: &mut [usize]) -> usize
     ensures returned { λ r. ⌜ r ≡ refusalNumber (answerOf answered) ⌝ }
     ensures numbers { λ r. ⌜ now (answer .exit) ≡ cutOrPadded (length (now (answer .entry))) (planNumbers (answerOf answered)) ⌝ }
@@ -41,6 +41,7 @@ pub fn tell_plan(answered: PlanAnswer, answer: &mut [usize]) -> usize
                 counts[4],
                 counts[5],
                 counts[6],
+                counts[7],
             ];
             put(&numbers, answer);
             0

@@ -27,7 +27,7 @@ use Rattle.store_lists.proofs.Chaining.{linked-end, linked-next}
 use Rattle.store_search.specs.Behind.{BehindAs}
 use Rattle.store_search.specs.declared.searching.Behind.the-variants.{From}
 use Rattle.store_search.proofs.Passing.{behind-nothing, passed-none, passed-behind}
-use Rattle.plan_gather.specs.Ready.{planOf}
+use Rattle.plan_gather.specs.Ready.{lentBy, planOf}
 use Rattle.plan_gather.specs.Gathering.{without, Within}
 use Rattle.plan_gather.specs.Steps.{StepOf, ChainsOf, SideAt}
 use Rattle.plan_gather.proofs.Chaining.{first-in, handed-some, row-ends, row-is, row-rises, row-some, starts-size}
@@ -219,11 +219,11 @@ module _ {p : Lent} {n k row : ℕ} (j : JoinsLast p n k row) where
         let rows = rw (j .rows) at (from-rows-is p ready k low high side) in
         sym (steps-kept p ready k low high side) ∙ sym (from-steps-is p ready k low high side) ∙ rw (j .steps, ← rows)
 
-    last-within : Within (suc k) (p .n) (without k (kept (planOf p) side (k - 1)))
-    last-within = without-within k (p .n) _ (handed-within p (j .step .ready) k (j .step .low) high side (k - 1) step-handed)
+    last-within : Within (suc k) (p .height) (without k (kept (planOf p) side (k - 1)))
+    last-within = without-within k (p .height) _ (handed-within p (j .step .ready) k (j .step .low) high side (k - 1) step-handed)
 
-    row-within : Within (suc k) (p .n) (without k (brings (patternOf p) side row))
-    row-within = without-within k (p .n) _ (brings-within p (j .step .ready) k (j .step .low) high side row row-met)
+    row-within : Within (suc k) (p .height) (without k (brings (patternOf p) side row))
+    row-within = without-within k (p .height) _ (brings-within p (j .step .ready) k (j .step .low) high side row row-met)
 
     -- Where the row only adds behind the list of step k-1, and that list ends its store, this is what the list of step k adds: by the rule for t too, since
     -- that list is not empty, and what stands before it is not looked at.
@@ -253,15 +253,15 @@ module _ {p : Lent} {n k row : ℕ} (j : JoinsLast p n k row) where
 pub record LedRow (n : ℕ) (starts columns : List ℕ) (k row : ℕ) : Type 0 where
   pub read : RowRead n starts columns row
   pub rising : getD starts (row - 1) 0 + 1 ≤ getD starts row 0
-  pub led-by : Led k (brings (patternOf (lent n starts columns)) upper row)
+  pub led-by : Led k (brings (patternOf (lentBy n starts columns)) upper row)
   pub rest :
       take (getD starts row 0 - (getD starts (row - 1) 0 + 1)) (drop (getD starts (row - 1) 0 + 1) columns)
-      ≡ drop 1 (brings (patternOf (lent n starts columns)) upper row)
+      ≡ drop 1 (brings (patternOf (lentBy n starts columns)) upper row)
 
-pub led-row : {n : ℕ} {starts columns : List ℕ} {k row : ℕ} → JoinsLast (lent n starts columns) n k row → LedRow n starts columns k row
-unfolding brings patternOf lent
+pub led-row : {n : ℕ} {starts columns : List ℕ} {k row : ℕ} → JoinsLast (lentBy n starts columns) n k row → LedRow n starts columns k row
+unfolding brings patternOf lentBy lent
 led-row {n} {starts} {columns} {k} {row} j =
-    let p : Lent = lent n starts columns in
+    let p : Lent = lentBy n starts columns in
     let ready = j .step .ready in
     let (low, high, least) = first-in p ready k row (j .step .low) (j .step .high) (row-met j) in
     let a : ℕ = getD starts (row - 1) 0 in
@@ -270,8 +270,8 @@ led-row {n} {starts} {columns} {k} {row} j =
     let less : b - a - 1 ≡ b - (a + 1) = omega arith in
     let is : take (b - a) (drop a columns) ≡ rowOf p row = slice-part a b columns rising ∙ sym (row-is p ready row low high) in
     record {
-      read = record { low = low; high = high; size = starts-size p ready; rising = rising; inside = row-ends p ready row low high; is = is };
-      rising = omega (arith, row-some p ready row low high);
+      read = record { low = low; in-starts = omega (arith, starts-size p ready); rising = rising; inside = row-ends p ready row low high; is = is };
+      rising = let at-all : 1 ≤ leastAbove 0 (rowOf p row) = omega (arith, least, j .step .low) in omega (arith, row-some p ready row low high at-all);
       led-by =
           led k (rowOf p row) (brings-within p ready k (j .step .low) (j .step .high) upper row (row-met j) .ascending)
           (rw least at (least-nonzero-member 0 (rowOf p row) (λ e. omega (arith, j .step .low))));

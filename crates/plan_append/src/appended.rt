@@ -3,10 +3,11 @@ ghost use mathlib.Core.Bool.{true};
 ghost use mathlib.Core.Path.{_≡_};
 ghost use Prim.Native.Nat.{_-_, _≤_, _<_};
 ghost use lib.ListN.{length};
-ghost use Rattle.foundation.specs.Pattern.{Lent, lent};
+ghost use Rattle.foundation.specs.Pattern.{Lent};
 ghost use Rattle.foundation.specs.Plan.{lower, upper};
 ghost use Rattle.answers.specs.Stores.{sideStores};
 ghost use Rattle.store_place.specs.Places.{ListAsks};
+ghost use Rattle.plan_gather.specs.Ready.{lentBy};
 ghost use Rattle.plan_gather.specs.Steps.{SideAt};
 ghost use Rattle.plan_append.specs.Joining.{ChainsJoin, JoinsLast, LastAs, AddedAs};
 use answers::SubscriptPlace;
@@ -117,9 +118,9 @@ pub fn added_columns(
     slots: &[usize],
     end: SubscriptPlace,
 ) -> Added
-    requires { ⌜ JoinsLast (lent n (now starts) (now columns)) n k row ⌝ }
-    requires { ⌜ SideAt (lent n (now starts) (now columns)) upper n k (sideStores (now subs) (now «list_starts») (now slots)) (end .0) ⌝ }
-    ensures { λ r. ⌜ AddedAs r (lent n (now (starts .entry)) (now (columns .entry))) upper k row ⌝ }
+    requires { ⌜ JoinsLast (lentBy n (now starts) (now columns)) n k row ⌝ }
+    requires { ⌜ SideAt (lentBy n (now starts) (now columns)) upper n k (sideStores (now subs) (now «list_starts») (now slots)) (end .0) ⌝ }
+    ensures { λ r. ⌜ AddedAs r (lentBy n (now (starts .entry)) (now (columns .entry))) upper k row ⌝ }
 {
     let Last::Members(first, behind) = last_list(k, list_starts, slots, end) else {
         return Added::Elsewhere;

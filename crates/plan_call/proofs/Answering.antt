@@ -26,12 +26,12 @@ use Rattle.answers.specs.declared.SubscriptPlace.{SubscriptPlace}
 use Rattle.store_lists.specs.Chains.{Chained}
 use Rattle.store_clear.specs.Clearing.{Zeros}
 use Rattle.store_lists.specs.Clearing.{SideZeros}
-use Rattle.plan_gather.specs.Ready.{Ready, planOf}
+use Rattle.plan_gather.specs.Ready.{lentBy, Ready, planOf}
 use Rattle.plan_gather.specs.Contains.{used}
 use Rattle.plan_gather.specs.Steps.{countedReads, unmetAt, ChainsAt, EndsAre, chainStores}
 use Rattle.plan_pattern.specs.Sizes.{lengthsFit}
 use Rattle.plan_gather.proofs.Progress.{counted-all, chains-begin}
-use Rattle.plan_gather.proofs.Passing.{ready, fault-ready}
+use Rattle.plan_gather.proofs.Passing.{ready, fault-starts, fault-height, fault-ready}
 use Rattle.plan_pattern.proofs.Sizing.{Lengths, fit-lengths, unfit, sizes-fit}
 use Rattle.plan_lay.specs.Filled.{Filled, BothFilled}
 use Rattle.plan_lay.proofs.Filled.{filled-none, filled-contains}
@@ -84,17 +84,17 @@ fit-passes : (p : Lent) (roomL roomU t : ℕ) → FitTo p t roomL roomU → Pass
 unfolding used
 fit-passes p roomL roomU t h = (not-short (planOf p) lower roomL t (h .lower-fits), not-short (planOf p) upper roomU t (h .upper-fits))
 
--- equal counts, one by one
+-- equal counts, one by one; the row count is the same
 same-counts :
-    {a b c d e f g a′ b′ c′ d′ e′ f′ g′ : ℕ} → a ≡ a′ → b ≡ b′ → c ≡ c′ → d ≡ d′ → e ≡ e′ → f ≡ f′ → g ≡ g′
-    → counted a b c d e f g ≡ counted a′ b′ c′ d′ e′ f′ g′
+    {a b c d e f g h a′ c′ d′ e′ f′ g′ h′ : ℕ} → a ≡ a′ → c ≡ c′ → d ≡ d′ → e ≡ e′ → f ≡ f′ → g ≡ g′ → h ≡ h′
+    → counted a b c d e f g h ≡ counted a′ b c′ d′ e′ f′ g′ h′
 same-counts p q r s t u v = rw (p, q, r, s, t, u, v)
 
 module _ (p : Lent) (n roomL roomU : ℕ) (lSubs lStarts lSlots uSubs uStarts uSlots : List ℕ) where
   -- the counts of a plan whose stores are filled with it
   planned-counts :
       Ready p → p .n ≡ n → (l u reads : ℕ) → EndsAre p n l u reads → BothFilled p n n roomL roomU (planStores lSubs lStarts lSlots uSubs uStarts uSlots)
-      → countsOf p (planOf p) ≡ counted n (length (p .columns)) l u (getD lSlots n 0) (getD uSlots n 0) reads
+      → countsOf p (planOf p) ≡ counted n (p .height) (length (p .columns)) l u (getD lSlots n 0) (getD uSlots n 0) reads
   unfolding countsOf subscripts used
   planned-counts ready same l u reads ends filled =
       let s : Planning = planOf p in
@@ -110,7 +110,7 @@ module _ (p : Lent) (n roomL roomU : ℕ) (lSubs lStarts lSlots uSubs uStarts uS
   -- The answer by the room is what the steps ended with.
   pub ended-answer :
       (e : Ended) → Ready p → p .n ≡ n → EndedAs e p n roomL roomU (planStores lSubs lStarts lSlots uSubs uStarts uSlots)
-      → planAnswer p (roomFault (planOf p) roomL roomU 1 (p .n)) ≡ endedAnswer e n (length (p .columns)) (getD lSlots n 0) (getD uSlots n 0)
+      → planAnswer p (roomFault (planOf p) roomL roomU 1 (p .n)) ≡ endedAnswer e n (p .height) (length (p .columns)) (getD lSlots n 0) (getD uSlots n 0)
   unfolding endedAnswer planAnswer andThen used
   ended-answer (All l u reads) ready same (ends, filled) =
       let fits : roomFault (planOf p) roomL roomU 1 n ≡ granted (planOf p) =
@@ -129,13 +129,13 @@ module _ (p : Lent) (n roomL roomU : ℕ) (lSubs lStarts lSlots uSubs uStarts uS
 
   -- a plan that is answered stands in its stores
   pub ended-made :
-      (r : PlanAnswer) (e : Ended) (entries ls us : ℕ) → answerOf r ≡ endedAnswer e n entries ls us
+      (r : PlanAnswer) (e : Ended) (height entries ls us : ℕ) → answerOf r ≡ endedAnswer e n height entries ls us
       → EndedAs e p n roomL roomU (planStores lSubs lStarts lSlots uSubs uStarts uSlots) → PlannedAs r p n roomL roomU (planStores lSubs lStarts lSlots uSubs uStarts uSlots)
   unfolding answerOf endedAnswer
-  ended-made (Refused x) e entries ls us a h = tt
-  ended-made (Planned c) (All l u reads) entries ls us a h = h .1
-  ended-made (Planned c) (LowerAt k) entries ls us a h = let z : _≡_ {A = ℕ} 0 1 = cc in absurd (omega arith)
-  ended-made (Planned c) (UpperAt k) entries ls us a h = let z : _≡_ {A = ℕ} 0 1 = cc in absurd (omega arith)
+  ended-made (Refused x) e height entries ls us a h = tt
+  ended-made (Planned c) (All l u reads) height entries ls us a h = h .1
+  ended-made (Planned c) (LowerAt k) height entries ls us a h = let z : _≡_ {A = ℕ} 0 1 = cc in absurd (omega arith)
+  ended-made (Planned c) (UpperAt k) height entries ls us a h = let z : _≡_ {A = ℕ} 0 1 = cc in absurd (omega arith)
 
 -- ---- the first step
 
@@ -158,82 +158,96 @@ last-inside a b c = omega (arith, a, b, c)
 
 -- ---- the code's answers
 
-module _ (e : Ended) (n entries ls us : ℕ) where
+module _ (e : Ended) (n height entries ls us : ℕ) where
   -- each ending is answered as it is
-  pub answer-lower : (k : ℕ) → e ≡ LowerAt k → answerOf (Refused (LowerRoom k)) ≡ endedAnswer e n entries ls us
+  pub answer-lower : (k : ℕ) → e ≡ LowerAt k → answerOf (Refused (LowerRoom k)) ≡ endedAnswer e n height entries ls us
   unfolding answerOf refusalOf endedAnswer
   answer-lower k q = rw q
 
-  pub answer-upper : (k : ℕ) → e ≡ UpperAt k → answerOf (Refused (UpperRoom k)) ≡ endedAnswer e n entries ls us
+  pub answer-upper : (k : ℕ) → e ≡ UpperAt k → answerOf (Refused (UpperRoom k)) ≡ endedAnswer e n height entries ls us
   unfolding answerOf refusalOf endedAnswer
   answer-upper k q = rw q
 
   pub answer-all :
-      (l u : SubscriptPlace) (reads : ℕ) (c : PlanCounts) → e ≡ All l u reads → countsIn c ≡ counted n entries (l .0) (u .0) ls us reads
-      → answerOf (Planned c) ≡ endedAnswer e n entries ls us
+      (l u : SubscriptPlace) (reads : ℕ) (c : PlanCounts) → e ≡ All l u reads → countsIn c ≡ counted n height entries (l .0) (u .0) ls us reads
+      → answerOf (Planned c) ≡ endedAnswer e n height entries ls us
   unfolding answerOf endedAnswer
   answer-all l u reads c q h = rw q (ap granted h)
 
-module _ (most n : ℕ) (starts columns : List ℕ) (fault : ℕ) (found : fault ≡ patternFault most (lent n starts columns)) where
+module _ (most n height : ℕ) (starts columns : List ℕ) (fault : ℕ) (found : fault ≡ patternFault most (lent n height starts columns)) where
   module _ (lSubs lStarts lSlots uSubs uStarts uSlots rowHeads rowLinks setHeads setLinks list spare : List ℕ) where
     -- the answer to a fault
     pub refuse-fault :
         (r : Refusal) → (fault ≡ 0 → ⊥) → refusalOf {A = Counts} r ≡ refused fault 0
-        → answerOf (Refused r) ≡ planAnswer (lent n starts columns) (planned most (lent n starts columns) (planStores lSubs lStarts lSlots uSubs uStarts uSlots) (workSizes (workStores rowHeads rowLinks setHeads setLinks list spare)))
+        → answerOf (Refused r) ≡ planAnswer (lent n height starts columns) (planned most (lent n height starts columns) (planStores lSubs lStarts lSlots uSubs uStarts uSlots) (workSizes (workStores rowHeads rowLinks setHeads setLinks list spare)))
     unfolding answerOf
     refuse-fault r some is =
-        is ∙ rw found (sym (answer-refused most (lent n starts columns) _ _ _ 0 (planned-fault most (lent n starts columns) _ _ (λ e. some (found ∙ e)))))
+        is ∙ rw found (sym (answer-refused most (lent n height starts columns) _ _ _ 0 (planned-fault most (lent n height starts columns) _ _ (λ e. some (found ∙ e)))))
 
     -- the answer to a store of another length
     pub refuse-lengths :
-        (fit : Bool) → fit ≡ lengthsFit n (length lStarts) (length lSlots) (length uStarts) (length uSlots) (length rowHeads) (length rowLinks) (length setHeads) (length setLinks) (length list) (length spare)
+        (fit : Bool) → fit ≡ lengthsFit n height (length lStarts) (length lSlots) (length uStarts) (length uSlots) (length rowHeads) (length rowLinks) (length setHeads) (length setLinks) (length list) (length spare)
         → fault ≡ 0 → fit ≡ false
-        → answerOf (Refused Stores) ≡ planAnswer (lent n starts columns) (planned most (lent n starts columns) (planStores lSubs lStarts lSlots uSubs uStarts uSlots) (workSizes (workStores rowHeads rowLinks setHeads setLinks list spare)))
+        → answerOf (Refused Stores) ≡ planAnswer (lent n height starts columns) (planned most (lent n height starts columns) (planStores lSubs lStarts lSlots uSubs uStarts uSlots) (workSizes (workStores rowHeads rowLinks setHeads setLinks list spare)))
     unfolding answerOf refusalOf
     refuse-lengths fit is none unfit =
-        sym (answer-refused most (lent n starts columns) _ _ 6 0 (planned-sizes most (lent n starts columns) _ _ (sym found ∙ none)
-        (sizes-fit n starts columns lSubs lStarts lSlots uSubs uStarts uSlots rowHeads rowLinks setHeads setLinks list spare ∙ sym is ∙ unfit)))
+        sym (answer-refused most (lent n height starts columns) _ _ 6 0 (planned-sizes most (lent n height starts columns) _ _ (sym found ∙ none)
+        (sizes-fit n height starts columns lSubs lStarts lSlots uSubs uStarts uSlots rowHeads rowLinks setHeads setLinks list spare ∙ sym is ∙ unfit)))
 
-    module _ (fit : Bool) (is : fit ≡ lengthsFit n (length lStarts) (length lSlots) (length uStarts) (length uSlots) (length rowHeads) (length rowLinks) (length setHeads) (length setLinks) (length list) (length spare)) (none : fault ≡ 0) (fits : fit ≡ true) where
-      pub sizes : Lengths n (length lStarts) (length lSlots) (length uStarts) (length uSlots) (length rowHeads) (length rowLinks) (length setHeads) (length setLinks) (length list) (length spare)
-      sizes = fit-lengths _ _ _ _ _ _ _ _ _ _ _ (sym is ∙ fits)
+    module _ (fit : Bool) (is : fit ≡ lengthsFit n height (length lStarts) (length lSlots) (length uStarts) (length uSlots) (length rowHeads) (length rowLinks) (length setHeads) (length setLinks) (length list) (length spare)) (none : fault ≡ 0) (fits : fit ≡ true) where
+      pub sizes : Lengths n height (length lStarts) (length lSlots) (length uStarts) (length uSlots) (length rowHeads) (length rowLinks) (length setHeads) (length setLinks) (length list) (length spare)
+      sizes = fit-lengths _ _ _ _ _ _ _ _ _ _ _ _ (sym is ∙ fits)
+
+      -- the row starts tell how many rows there are
+      starts-long : length starts ≡ suc height
+      starts-long = fault-starts most n height starts columns fault found none
+
+      rows-told : height ≡ lentBy n starts columns .height
+      unfolding lentBy lent
+      rows-told = omega (arith, starts-long)
 
       -- what chaining the rows takes for granted
-      pub rows-ask : Ready (lent n starts columns) × ((length rowHeads ≡ suc n) × (length rowLinks ≡ suc n))
-      rows-ask = (fault-ready most n starts columns fault found none, (sizes .row-heads, sizes .row-links))
+      pub rows-ask : Ready (lentBy n starts columns) × ((length rowHeads ≡ length starts) × (length rowLinks ≡ length starts))
+      rows-ask = (fault-ready most n height starts columns fault found none, (sizes .row-heads ∙ sym starts-long, sizes .row-links ∙ sym starts-long))
 
       -- what the steps take for granted
       pub steps-ask :
           {rowHeads′ rowLinks′ setHeads′ setLinks′ lSubs′ lStarts′ lSlots′ uSubs′ uStarts′ uSlots′ : List ℕ}
           → SideZeros lSubs lStarts lSlots lSubs′ lStarts′ lSlots′ → SideZeros uSubs uStarts uSlots uSubs′ uStarts′ uSlots′
-          → Chained rowHeads′ rowLinks′ n (unmetAt (lent n starts columns) (after (patternOf (lent n starts columns)) 0)) → Zeros setHeads setHeads′ × Zeros setLinks setLinks′
-          → (Ready (lent n starts columns) × ChainsAt (lent n starts columns) n 0 (chainStores rowHeads′ rowLinks′ setHeads′ setLinks′))
-          × (BothFilled (lent n starts columns) n 0 (length lSubs′) (length uSubs′) (planStores lSubs′ lStarts′ lSlots′ uSubs′ uStarts′ uSlots′)
-          × ((length list ≡ n) × (length spare ≡ n)))
+          → Chained rowHeads′ rowLinks′ (lentBy n starts columns .height) n (unmetAt (lentBy n starts columns) (after (patternOf (lentBy n starts columns)) 0))
+          → Zeros setHeads setHeads′ × Zeros setLinks setLinks′
+          → (Ready (lentBy n starts columns) × ChainsAt (lentBy n starts columns) n 0 (chainStores rowHeads′ rowLinks′ setHeads′ setLinks′))
+          × (BothFilled (lentBy n starts columns) n 0 (length lSubs′) (length uSubs′) (planStores lSubs′ lStarts′ lSlots′ uSubs′ uStarts′ uSlots′)
+          × ((length list ≡ lentBy n starts columns .height) × (length spare ≡ lentBy n starts columns .height)))
       steps-ask l u rows sets = (
-        (fault-ready most n starts columns fault found none, chains-begin setHeads setLinks rows (sizes .set-heads) (sizes .set-links) sets),
+        (
+          fault-ready most n height starts columns fault found none,
+          chains-begin setHeads setLinks rows (sizes .set-heads ∙ ap suc rows-told) (sizes .set-links ∙ ap suc rows-told) sets,
+        ),
         (
           record { lowers = side-begins (sizes .l-starts) (sizes .l-slots) l; uppers = side-begins (sizes .u-starts) (sizes .u-slots) u },
-          (sizes .list-is, sizes .spare-is),
+          (sizes .list-is ∙ rows-told, sizes .spare-is ∙ rows-told),
         ),
       )
 
       -- the answer to the steps' ending, and what stands in the stores
       pub steps-end :
           (e : Ended) (r : PlanAnswer) (roomL roomU : ℕ) (lSubs′ lStarts′ lSlots′ uSubs′ uStarts′ uSlots′ : List ℕ) → roomL ≡ length lSubs → roomU ≡ length uSubs
-          → EndedAs e (lent n starts columns) n roomL roomU (planStores lSubs′ lStarts′ lSlots′ uSubs′ uStarts′ uSlots′)
-          → answerOf r ≡ endedAnswer e n (length columns) (getD lSlots′ n 0) (getD uSlots′ n 0)
-          → (answerOf r ≡ planAnswer (lent n starts columns) (planned most (lent n starts columns) (planStores lSubs lStarts lSlots uSubs uStarts uSlots) (workSizes (workStores rowHeads rowLinks setHeads setLinks list spare))))
-          × PlannedAs r (lent n starts columns) n (length lSubs) (length uSubs) (planStores lSubs′ lStarts′ lSlots′ uSubs′ uStarts′ uSlots′)
+          → EndedAs e (lentBy n starts columns) n roomL roomU (planStores lSubs′ lStarts′ lSlots′ uSubs′ uStarts′ uSlots′)
+          → answerOf r ≡ endedAnswer e n height (length columns) (getD lSlots′ n 0) (getD uSlots′ n 0)
+          → (answerOf r ≡ planAnswer (lent n height starts columns) (planned most (lent n height starts columns) (planStores lSubs lStarts lSlots uSubs uStarts uSlots) (workSizes (workStores rowHeads rowLinks setHeads setLinks list spare))))
+          × PlannedAs r (lent n height starts columns) n (length lSubs) (length uSubs) (planStores lSubs′ lStarts′ lSlots′ uSubs′ uStarts′ uSlots′)
       unfolding lent
       steps-end e r roomL roomU lSubs′ lStarts′ lSlots′ uSubs′ uStarts′ uSlots′ same-l same-u at says =
-          let ends : EndedAs e (lent n starts columns) n (length lSubs) (length uSubs) (planStores lSubs′ lStarts′ lSlots′ uSubs′ uStarts′ uSlots′) =
-          subst (λ (m : ℕ). EndedAs e (lent n starts columns) n m (length uSubs) (planStores lSubs′ lStarts′ lSlots′ uSubs′ uStarts′ uSlots′)) same-l
-          (subst (λ (m : ℕ). EndedAs e (lent n starts columns) n roomL m (planStores lSubs′ lStarts′ lSlots′ uSubs′ uStarts′ uSlots′)) same-u at) in
-          let fit : sizesFit (lent n starts columns) (planStores lSubs lStarts lSlots uSubs uStarts uSlots) (workSizes (workStores rowHeads rowLinks setHeads setLinks list spare)) ≡ true =
-          sizes-fit n starts columns lSubs lStarts lSlots uSubs uStarts uSlots rowHeads rowLinks setHeads setLinks list spare ∙ sym is ∙ fits in
-          let room = planned-room most (lent n starts columns) (planStores lSubs lStarts lSlots uSubs uStarts uSlots) (workSizes (workStores rowHeads rowLinks setHeads setLinks list spare)) (sym found ∙ none) fit in (
-            says ∙ sym (ended-answer (lent n starts columns) n (length lSubs) (length uSubs) lSubs′ lStarts′ lSlots′ uSubs′ uStarts′ uSlots′ e (fault-ready most n starts columns fault found none) refl ends)
-                ∙ ap (planAnswer (lent n starts columns)) (sym room),
-            ended-made (lent n starts columns) n (length lSubs) (length uSubs) lSubs′ lStarts′ lSlots′ uSubs′ uStarts′ uSlots′ r e (length columns) _ _ says ends,
+          let ends : EndedAs e (lent n height starts columns) n (length lSubs) (length uSubs) (planStores lSubs′ lStarts′ lSlots′ uSubs′ uStarts′ uSlots′) =
+          subst (λ (m : ℕ). EndedAs e (lent n height starts columns) n m (length uSubs) (planStores lSubs′ lStarts′ lSlots′ uSubs′ uStarts′ uSlots′)) same-l
+          (subst (λ (m : ℕ). EndedAs e (lent n height starts columns) n roomL m (planStores lSubs′ lStarts′ lSlots′ uSubs′ uStarts′ uSlots′)) same-u
+          (subst (λ (p : Lent). EndedAs e p n roomL roomU (planStores lSubs′ lStarts′ lSlots′ uSubs′ uStarts′ uSlots′))
+          (sym (fault-height most n height starts columns fault found none)) at)) in
+          let fit : sizesFit (lent n height starts columns) (planStores lSubs lStarts lSlots uSubs uStarts uSlots) (workSizes (workStores rowHeads rowLinks setHeads setLinks list spare)) ≡ true =
+          sizes-fit n height starts columns lSubs lStarts lSlots uSubs uStarts uSlots rowHeads rowLinks setHeads setLinks list spare ∙ sym is ∙ fits in
+          let room = planned-room most (lent n height starts columns) (planStores lSubs lStarts lSlots uSubs uStarts uSlots) (workSizes (workStores rowHeads rowLinks setHeads setLinks list spare)) (sym found ∙ none) fit in (
+            says ∙ sym (ended-answer (lent n height starts columns) n (length lSubs) (length uSubs) lSubs′ lStarts′ lSlots′ uSubs′ uStarts′ uSlots′ e (ready most (lent n height starts columns) (sym found ∙ none)) refl ends)
+                ∙ ap (planAnswer (lent n height starts columns)) (sym room),
+            ended-made (lent n height starts columns) n (length lSubs) (length uSubs) lSubs′ lStarts′ lSlots′ uSubs′ uStarts′ uSlots′ r e height (length columns) _ _ says ends,
           )

@@ -16,7 +16,7 @@ PlannedAs (Planned c) p n roomL roomU stores = BothFilled p n n roomL roomU stor
 PlannedAs (Refused r) p n roomL roomU stores = Unit {0}
 
 -- what the ending of the steps is as an answer, with the ends of both sides' slots
-unfoldable pub endedAnswer : Ended → (n entries lowerSlots upperSlots : ℕ) → Answer Counts
-endedAnswer (All l u reads) n entries lowerSlots upperSlots = granted (counted n entries (l .0) (u .0) lowerSlots upperSlots reads)
-endedAnswer (LowerAt k) n entries lowerSlots upperSlots = refused 7 k
-endedAnswer (UpperAt k) n entries lowerSlots upperSlots = refused 8 k
+unfoldable pub endedAnswer : Ended → (n height entries lowerSlots upperSlots : ℕ) → Answer Counts
+endedAnswer (All l u reads) n height entries lowerSlots upperSlots = granted (counted n height entries (l .0) (u .0) lowerSlots upperSlots reads)
+endedAnswer (LowerAt k) n height entries lowerSlots upperSlots = refused 7 k
+endedAnswer (UpperAt k) n height entries lowerSlots upperSlots = refused 8 k

@@ -1,4 +1,4 @@
-// Planning from the judgement to the answer: refusals 1 to 6, then the steps.
+// Planning from the judgement to the answer: refusals 1 to 6 and 25, then the steps.
 ghost use mathlib.Core.Path.{_≡_};
 ghost use lib.ListN.{length};
 ghost use Rattle.foundation.specs.Pattern.{lent};
@@ -21,6 +21,7 @@ use store_lists::clear_side;
 // The counts of a plan that was made.
 fn counts_of(
     n: usize,
+    height: usize,
     entries: usize,
     l_subscripts: usize,
     u_subscripts: usize,
@@ -28,10 +29,11 @@ fn counts_of(
     u_slots: usize,
     reads: usize,
 ) -> PlanCounts
-    ensures { λ r. ⌜ countsIn r ≡ counted n entries «l_subscripts» «u_subscripts» «l_slots» «u_slots» reads ⌝ }
+    ensures { λ r. ⌜ countsIn r ≡ counted n height entries «l_subscripts» «u_subscripts» «l_slots» «u_slots» reads ⌝ }
 {
     PlanCounts {
         n,
+        height,
         entries,
         l_subscripts,
         u_subscripts,
@@ -42,14 +44,30 @@ fn counts_of(
 }
 
 // What the steps' ending says, with the ends of both sides' slots.
-fn answer_of(n: usize, entries: usize, ended: Ended, l_slots: usize, u_slots: usize) -> PlanAnswer
-    ensures { λ r. ⌜ answerOf r ≡ endedAnswer ended n entries «l_slots» «u_slots» ⌝ }
+fn answer_of(
+    n: usize,
+    height: usize,
+    entries: usize,
+    ended: Ended,
+    l_slots: usize,
+    u_slots: usize,
+) -> PlanAnswer
+    ensures { λ r. ⌜ answerOf r ≡ endedAnswer ended n height entries «l_slots» «u_slots» ⌝ }
 {
     match ended {
         Ended::LowerAt(k) => PlanAnswer::Refused(Refusal::LowerRoom(k)),
         Ended::UpperAt(k) => PlanAnswer::Refused(Refusal::UpperRoom(k)),
         Ended::All(l_end, u_end, reads) => {
-            PlanAnswer::Planned(counts_of(n, entries, l_end.0, u_end.0, l_slots, u_slots, reads))
+            PlanAnswer::Planned(counts_of(
+                n,
+                height,
+                entries,
+                l_end.0,
+                u_end.0,
+                l_slots,
+                u_slots,
+                reads,
+            ))
         }
     }
 }
@@ -59,6 +77,7 @@ fn answer_of(n: usize, entries: usize, ended: Ended, l_slots: usize, u_slots: us
 pub fn judge_and_plan(
     most: usize,
     n: usize,
+    height: usize,
     starts: &[usize],
     columns: &[usize],
     l_subs: &mut [usize],
@@ -74,22 +93,23 @@ pub fn judge_and_plan(
     list: &mut [usize],
     spare: &mut [usize],
 ) -> PlanAnswer
-    ensures answer { λ r. ⌜ answerOf r ≡ planAnswer (lent n (now (starts .entry)) (now (columns .entry)))
-        (planned most (lent n (now (starts .entry)) (now (columns .entry)))
+    ensures answer { λ r. ⌜ answerOf r ≡ planAnswer (lent n height (now (starts .entry)) (now (columns .entry)))
+        (planned most (lent n height (now (starts .entry)) (now (columns .entry)))
         (planStores (now («l_subs» .entry)) (now («l_starts» .entry)) (now («l_slots» .entry))
         (now («u_subs» .entry)) (now («u_starts» .entry)) (now («u_slots» .entry)))
         (workSizes (workStores (now («row_heads» .entry)) (now («row_links» .entry)) (now («set_heads» .entry))
         (now («set_links» .entry)) (now (list .entry)) (now (spare .entry))))) ⌝ }
-    ensures stores { λ r. ⌜ PlannedAs r (lent n (now (starts .entry)) (now (columns .entry))) n
+    ensures stores { λ r. ⌜ PlannedAs r (lent n height (now (starts .entry)) (now (columns .entry))) n
         (length (now («l_subs» .entry))) (length (now («u_subs» .entry)))
         (planStores (now («l_subs» .exit)) (now («l_starts» .exit)) (now («l_slots» .exit)) (now («u_subs» .exit)) (now («u_starts» .exit)) (now («u_slots» .exit))) ⌝ }
 {
-    let fault = pattern_fault(most, n, starts, columns);
+    let fault = pattern_fault(most, n, height, starts, columns);
     if fault != 0 {
         return PlanAnswer::Refused(refusal_of(fault));
     }
     if !lengths_fit(
         n,
+        height,
         l_starts.len(),
         l_slots.len(),
         u_starts.len(),
@@ -126,5 +146,5 @@ pub fn judge_and_plan(
     );
     let l_last = l_slots[n];
     let u_last = u_slots[n];
-    answer_of(n, columns.len(), ended, l_last, u_last)
+    answer_of(n, height, columns.len(), ended, l_last, u_last)
 }

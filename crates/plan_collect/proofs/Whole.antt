@@ -39,15 +39,15 @@ module _ {lies : Lies} {p : Lent} {side : Side} {n k row : ℕ} {rowLinks : List
     (c : Collectable lies p side n k row rowLinks set setLinks i end growing) where
   -- what the rows brought can be put at the front of the growing store
   pub rows-ready :
-      (Ready p × (1 ≤ k) × (k ≤ n)) × ((Linked rowLinks row (planOf p .firstMet k) × (length growing ≡ n)) × LiesAs lies p side n k row growing (keptRows p side k))
+      (Ready p × (1 ≤ k) × (k ≤ n)) × ((Linked rowLinks row (planOf p .firstMet k) × (length growing ≡ p .height)) × LiesAs lies p side k row growing (keptRows p side k))
   rows-ready = let step = c .at .step in ((step .ready, step .low, step .high), ((c .chains .rows, c .size), c .lies-there))
 
   -- from there the steps of S_k can be joined
-  pub steps-ready : {count : ℕ} {growing′ : List ℕ} → GrownIn n count growing′ (keptRows p side k) → StepsReady p side n k set setLinks i count growing′
+  pub steps-ready : {count : ℕ} {growing′ : List ℕ} → GrownIn (p .height) count growing′ (keptRows p side k) → StepsReady p side n k set setLinks i count growing′
   steps-ready grown = record { step = c .at .step; linked = c .chains .steps; contained = c .at .contained; grown = grown }
 
   -- and then the list is whole
-  pub grown-whole : {count : ℕ} {growing′ : List ℕ} → GrownIn n count growing′ (keptSteps p side k) → WholeAt (Grown count) p side n k row growing′
+  pub grown-whole : {count : ℕ} {growing′ : List ℕ} → GrownIn (p .height) count growing′ (keptSteps p side k) → WholeAt (Grown count) p side k row growing′
   grown-whole grown = record { lies-there = grown; alone = c .not-sole }
 
 -- ---- a list that is added behind the one of the step before
@@ -55,7 +55,7 @@ module _ {lies : Lies} {p : Lent} {side : Side} {n k row : ℕ} {rowLinks : List
 -- what the row adds there is what is left of the whole list
 pub added-whole :
     {p : Lent} {side : Side} {n k row shared from : ℕ} {growing : List ℕ} → JoinsLast p n k row → AddedAs (added.Behind shared from) p side k row
-    → WholeAt (Behind shared from) p side n k row growing
+    → WholeAt (Behind shared from) p side k row growing
 added-whole {p} {side} {k = k} j (few, rest) =
     let step = j .step in
     let high : k ≤ p .n = rw (step .same-n) (step .high) in
@@ -77,7 +77,7 @@ module _ {p : Lent} {n k row set l : ℕ} {rowLinks setLinks : List ℕ} (step :
   is-sole = sym (found ∙ sole-of p k chains)
 
   -- where one is found its list is k and then the list of k
-  pub sole-whole : {side : Side} {growing : List ℕ} → (l ≡ 0 → ⊥) → WholeAt (Sole l) p side n k row growing
+  pub sole-whole : {side : Side} {growing : List ℕ} → (l ≡ 0 → ⊥) → WholeAt (Sole l) p side k row growing
   unfolding patternOf
   sole-whole {side} some =
       let high : k ≤ p .n = rw (step .same-n) (step .high) in
@@ -93,8 +93,8 @@ module _ {p : Lent} {n k row set l : ℕ} {rowLinks setLinks : List ℕ} (step :
 
   -- where none is found the steps of S_k are collected, and where the row joins the list of the step before by the chains it does so by the plan
   pub collect-ready :
-      {lies : Lies} {side : Side} {i : SideStores} {end : ℕ} {growing : List ℕ} {join : Bool} → l ≡ 0 → SideAt p side n k i end → length growing ≡ n
-      → LiesAs lies p side n k row growing (keptRows p side k) → (join ≡ true → ChainsJoin k row rowLinks set setLinks)
+      {lies : Lies} {side : Side} {i : SideStores} {end : ℕ} {growing : List ℕ} {join : Bool} → l ≡ 0 → SideAt p side n k i end → length growing ≡ p .height
+      → LiesAs lies p side k row growing (keptRows p side k) → (join ≡ true → ChainsJoin k row rowLinks set setLinks)
       → (join ≡ true → JoinsLast p n k row) × Collectable lies p side n k row rowLinks set setLinks i end growing
   collect-ready none at size there one = (
     λ e. joins step chains (one e),
@@ -120,11 +120,11 @@ module _ {p : Lent} {n k row set : ℕ} {rowLinks setLinks : List ℕ} {lowers u
   high = rw (at-lower .step .same-n) (at-lower .step .high)
 
   -- the steps of S_k may be walked
-  pub set-walks : length setLinks ≡ suc n → StepsWalk setLinks set (lowers .slotStarts) (uppers .slotStarts) (planOf p .S k)
+  pub set-walks : length setLinks ≡ suc (p .height) → StepsWalk setLinks set (lowers .slotStarts) (uppers .slotStarts) (planOf p .S k)
   set-walks size =
       let step = at-lower .step in
       steps-walk p (step .ready) k (step .low) high (lowers .slotStarts) (uppers .slotStarts) (slots-to at-lower) (slots-to at-upper) setLinks set
-      (rw (step .same-n) size) (chains .steps)
+      size (chains .steps)
 
   module _ {reads more : ℕ} (read : reads ≡ countedReads p (afterRows (patternOf p) k .known) k)
       (walked : (steps : List ℕ) → Linked setLinks set steps → more ≡ total (bothSpans (lowers .slotStarts) (uppers .slotStarts)) steps) where
@@ -148,9 +148,9 @@ module _ {p : Lent} {n k row set : ℕ} {rowLinks setLinks : List ℕ} {lowers u
 
 -- both lists are whole
 pub lists-whole :
-    {lists : Lists} {p : Lent} {n k row : ℕ} {lowers uppers : List ℕ} → length lowers ≡ n → length uppers ≡ n → WholeAt (lists .lower) p lower n k row lowers
-    → WholeAt (lists .upper) p upper n k row uppers → lists .reads ≡ countedReads p (afterSteps (patternOf p) k .known) k
-    → ListsWhole lists p n k row lowers uppers
+    {lists : Lists} {p : Lent} {k row : ℕ} {lowers uppers : List ℕ} → length lowers ≡ p .height → length uppers ≡ p .height → WholeAt (lists .lower) p lower k row lowers
+    → WholeAt (lists .upper) p upper k row uppers → lists .reads ≡ countedReads p (afterSteps (patternOf p) k .known) k
+    → ListsWhole lists p k row lowers uppers
 lists-whole l u a b read = record {
   at = record { lower-size = l; upper-size = u; lower-lies = a .lies-there; upper-lies = b .lies-there; counted = read };
   lower-alone = a .alone;

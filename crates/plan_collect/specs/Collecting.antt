@@ -18,5 +18,5 @@ pub record Collectable (lies : Lies) (p : Lent) (side : Side) (n k row : ℕ) (r
   pub at : SideAt p side n k i end
   pub chains : ChainsOf p k row rowLinks set setLinks
   pub not-sole : soleStep (planOf p) k ≡ 0
-  pub size : length growing ≡ n
-  pub lies-there : LiesAs lies p side n k row growing (keptRows p side k)
+  pub size : length growing ≡ p .height
+  pub lies-there : LiesAs lies p side k row growing (keptRows p side k)

@@ -3,11 +3,11 @@ ghost use mathlib.Core.Bool.{true};
 ghost use mathlib.Core.Path.{_≡_};
 ghost use Prim.Native.Nat.{suc, _≤_, _<_};
 ghost use lib.ListN.{length};
-ghost use Rattle.foundation.specs.Pattern.{lent, patternOf};
+ghost use Rattle.foundation.specs.Pattern.{patternOf};
 ghost use Rattle.foundation.specs.Plan.{lower, upper, afterRows};
 ghost use Rattle.answers.specs.Stores.{sideStores};
 ghost use Rattle.store_lists.specs.Chains.{Linked};
-ghost use Rattle.plan_gather.specs.Ready.{Ready, planOf, sideOf};
+ghost use Rattle.plan_gather.specs.Ready.{lentBy, Ready, planOf, sideOf};
 ghost use Rattle.plan_gather.specs.Gathering.{GrownIn};
 ghost use Rattle.plan_gather.specs.Steps.{ChainsOf, SideAt, keptRows};
 ghost use Rattle.plan_append.specs.Joining.{JoinsLast};
@@ -37,10 +37,10 @@ fn grow_rows(
     columns: &[usize],
     growing: &mut [usize],
 ) -> usize
-    requires { ⌜ Ready (lent n (now starts) (now columns)) × (1 ≤ k) × (k ≤ n) ⌝ }
-    requires { ⌜ Linked (now «row_links») row (planOf (lent n (now starts) (now columns)) .firstMet k) × (length (now growing) ≡ n) ⌝ }
-    requires { ⌜ LiesAs lies (lent n (now starts) (now columns)) (sideOf upper) n k row (now growing) (keptRows (lent n (now starts) (now columns)) (sideOf upper) k) ⌝ }
-    ensures { λ r. ⌜ GrownIn n r (now (growing .exit)) (keptRows (lent n (now (starts .entry)) (now (columns .entry))) (sideOf upper) k) ⌝ }
+    requires { ⌜ Ready (lentBy n (now starts) (now columns)) × (1 ≤ k) × (k ≤ n) ⌝ }
+    requires { ⌜ Linked (now «row_links») row (planOf (lentBy n (now starts) (now columns)) .firstMet k) × (length (now growing) ≡ lentBy n (now starts) (now columns) .height) ⌝ }
+    requires { ⌜ LiesAs lies (lentBy n (now starts) (now columns)) (sideOf upper) k row (now growing) (keptRows (lentBy n (now starts) (now columns)) (sideOf upper) k) ⌝ }
+    ensures { λ r. ⌜ GrownIn (lentBy n (now (starts .entry)) (now (columns .entry)) .height) r (now (growing .exit)) (keptRows (lentBy n (now (starts .entry)) (now (columns .entry))) (sideOf upper) k) ⌝ }
 {
     if let Lies::Grown(count) = lies {
         return count;
@@ -66,9 +66,9 @@ fn collect_grown(
     end: SubscriptPlace,
     growing: &mut [usize],
 ) -> Lies
-    requires { ⌜ Collectable lies (lent n (now starts) (now columns)) (sideOf upper) n k row (now «row_links») set (now «set_links»)
+    requires { ⌜ Collectable lies (lentBy n (now starts) (now columns)) (sideOf upper) n k row (now «row_links») set (now «set_links»)
         (sideStores (now subs) (now «list_starts») (now slots)) (end .0) (now growing) ⌝ }
-    ensures { λ r. ⌜ WholeAt r (lent n (now (starts .entry)) (now (columns .entry))) (sideOf upper) n k row (now (growing .exit)) ⌝ }
+    ensures { λ r. ⌜ WholeAt r (lentBy n (now (starts .entry)) (now (columns .entry))) (sideOf upper) k row (now (growing .exit)) ⌝ }
 {
     let count = grow_rows(upper, n, k, row, row_links, lies, starts, columns, growing);
     Lies::Grown(from_steps(
@@ -102,10 +102,10 @@ fn collect_lower(
     end: SubscriptPlace,
     growing: &mut [usize],
 ) -> Lies
-    requires { ⌜ (joins ≡ true → JoinsLast (lent n (now starts) (now columns)) n k row) ⌝ }
-    requires { ⌜ Collectable lies (lent n (now starts) (now columns)) lower n k row (now «row_links») set (now «set_links»)
+    requires { ⌜ (joins ≡ true → JoinsLast (lentBy n (now starts) (now columns)) n k row) ⌝ }
+    requires { ⌜ Collectable lies (lentBy n (now starts) (now columns)) lower n k row (now «row_links») set (now «set_links»)
         (sideStores (now subs) (now «list_starts») (now slots)) (end .0) (now growing) ⌝ }
-    ensures { λ r. ⌜ WholeAt r (lent n (now (starts .entry)) (now (columns .entry))) lower n k row (now (growing .exit)) ⌝ }
+    ensures { λ r. ⌜ WholeAt r (lentBy n (now (starts .entry)) (now (columns .entry))) lower k row (now (growing .exit)) ⌝ }
 {
     if joins {
         if let Added::Behind(shared, from) = added_own(n, k, row, subs, list_starts, slots, end) {
@@ -149,10 +149,10 @@ fn collect_upper(
     end: SubscriptPlace,
     growing: &mut [usize],
 ) -> Lies
-    requires { ⌜ (joins ≡ true → JoinsLast (lent n (now starts) (now columns)) n k row) ⌝ }
-    requires { ⌜ Collectable lies (lent n (now starts) (now columns)) upper n k row (now «row_links») set (now «set_links»)
+    requires { ⌜ (joins ≡ true → JoinsLast (lentBy n (now starts) (now columns)) n k row) ⌝ }
+    requires { ⌜ Collectable lies (lentBy n (now starts) (now columns)) upper n k row (now «row_links») set (now «set_links»)
         (sideStores (now subs) (now «list_starts») (now slots)) (end .0) (now growing) ⌝ }
-    ensures { λ r. ⌜ WholeAt r (lent n (now (starts .entry)) (now (columns .entry))) upper n k row (now (growing .exit)) ⌝ }
+    ensures { λ r. ⌜ WholeAt r (lentBy n (now (starts .entry)) (now (columns .entry))) upper k row (now (growing .exit)) ⌝ }
 {
     if joins {
         if let Added::Behind(shared, from) = added_columns(
@@ -211,12 +211,12 @@ pub fn collect_steps(
     l_growing: &mut [usize],
     u_growing: &mut [usize],
 ) -> Lists
-    requires { ⌜ SideAt (lent n (now starts) (now columns)) lower n k (sideStores (now «l_subs») (now «l_starts») (now «l_slots»)) («l_end» .0)
-        × SideAt (lent n (now starts) (now columns)) upper n k (sideStores (now «u_subs») (now «u_starts») (now «u_slots»)) («u_end» .0) ⌝ }
-    requires { ⌜ ChainsOf (lent n (now starts) (now columns)) k row (now «row_links») set (now «set_links»)
-        × (0 < set) × (length (now «set_links») ≡ suc n) ⌝ }
-    requires { ⌜ ListsAt rows (lent n (now starts) (now columns)) n k row (afterRows (patternOf (lent n (now starts) (now columns))) k) k (now «l_growing») (now «u_growing») ⌝ }
-    ensures { λ r. ⌜ ListsWhole r (lent n (now (starts .entry)) (now (columns .entry))) n k row (now («l_growing» .exit)) (now («u_growing» .exit)) ⌝ }
+    requires { ⌜ SideAt (lentBy n (now starts) (now columns)) lower n k (sideStores (now «l_subs») (now «l_starts») (now «l_slots»)) («l_end» .0)
+        × SideAt (lentBy n (now starts) (now columns)) upper n k (sideStores (now «u_subs») (now «u_starts») (now «u_slots»)) («u_end» .0) ⌝ }
+    requires { ⌜ ChainsOf (lentBy n (now starts) (now columns)) k row (now «row_links») set (now «set_links»)
+        × (0 < set) × (length (now «set_links») ≡ suc (lentBy n (now starts) (now columns) .height)) ⌝ }
+    requires { ⌜ ListsAt rows (lentBy n (now starts) (now columns)) k row (afterRows (patternOf (lentBy n (now starts) (now columns))) k) k (now «l_growing») (now «u_growing») ⌝ }
+    ensures { λ r. ⌜ ListsWhole r (lentBy n (now (starts .entry)) (now (columns .entry))) k row (now («l_growing» .exit)) (now («u_growing» .exit)) ⌝ }
 {
     let l = sole_step(row, set, set_links);
     if l != 0 {

@@ -17,7 +17,7 @@ use Rattle.lists.proofs.Members.{by-test, not-member-nil, in-upto, upto-low, up
 use Rattle.lists.proofs.Order.{member-first, same-members-by, ascending-keep, ascending-between}
 use Rattle.lists.proofs.Kept.{keep-all, keep-nothing, leave-first}
 use Rattle.lists.proofs.Least.{least-member, least-above, least-nonzero-member}
-use Rattle.lists.proofs.Once.{falling-once, ascending-once}
+use Rattle.lists.proofs.Once.{falling-once, falling-weaken, ascending-once}
 use Rattle.lists.proofs.Places.{index-below, length-upto, update-same, update-untouched}
 use Rattle.lists.proofs.Small.{less-one}
 use Rattle.lists.proofs.Counting.{total-cong, total-le, total-constant, total-within}
@@ -36,7 +36,7 @@ use Rattle.foundation.proofs.ReadsBound.{first-ascends, sizes-within}
 use Rattle.store_lists.specs.Chains.{Linked, Chained, bothSpans, RowsWalk, StepsWalk}
 use Rattle.store_lists.proofs.Chaining.{chained-none, chained-cong, chained-push, chained-drop}
 use Rattle.plan_gather.specs.Ready.{Ready, planOf}
-use Rattle.plan_gather.specs.Steps.{rowsAt, unmetAt}
+use Rattle.plan_gather.specs.Steps.{rowsAt, rowsFrom, unmetAt}
 use Rattle.plan_pattern.proofs.Judging.{Fitted, fitted, row-order, row-within}
 
 -- ---- the rows of a pattern that was judged
@@ -51,10 +51,6 @@ pub between-cons : (a b : ℕ) → a ≤ b → between a b ≡ a ∷ between (su
 unfolding between run
 between-cons a b h = let e : suc b - a ≡ suc (suc b - suc a) = omega arith in rw e
 
--- the rows behind row i whose least column is k
-unfoldable pub rowsFrom : Lent → ℕ → ℕ → List ℕ
-rowsFrom p i k = keep (λ r. eqb (leastAbove 0 (rowOf p r)) k) (between (suc i) (p .n))
-
 -- row i + 1, by its starts
 row-at : (p : Lent) (i : ℕ) → rowOf p (i + 1) ≡ slice (getD (p .starts) i 0) (getD (p .starts) (i + 1) 0) (p .columns)
 unfolding rowOf
@@ -62,7 +58,6 @@ row-at p i = rw add-one
 
 -- what `chain_rows` reads of row i lies inside
 pub record RowPlace (n : ℕ) (starts columns : List ℕ) (i : ℕ) : Type 0 where
-  pub in-starts : i < length starts
   pub in-columns : getD starts (i - 1) 0 < length columns
   pub column-high : getD columns (getD starts (i - 1) 0) 0 ≤ n
 
@@ -95,29 +90,25 @@ module _ (s : Planning) (side : Side) (k : ℕ) (slots : List ℕ) (h : SlotsTo 
   slot-rises l low high = omega (arith, slot-next l low high)
 
 module _ (p : Lent) (ready : Ready p) where
-  fits : Fitted (p .n) (p .starts) (p .columns)
+  fits : Fitted (p .height) (p .starts) (p .columns)
   unfolding lent startsFit
-  fits = fitted (p .n) (p .starts) (p .columns) (ready .starts-fit)
+  fits = fitted (p .n) (p .height) (p .starts) (p .columns) (ready .starts-fit)
 
   -- there is a start for each row, and one behind
-  pub starts-size : length (p .starts) ≡ suc (p .n)
+  pub starts-size : length (p .starts) ≡ suc (p .height)
   starts-size = fits .count
 
-  module _ (i : ℕ) (low : 1 ≤ i) (high : i ≤ p .n) where
-    own : member i (rowOf p i) ≡ true
-    unfolding patternOf
-    own = ready .plannable .diagonal i low high
-
+  module _ (i : ℕ) (low : 1 ≤ i) (high : i ≤ p .height) where
     back : i - 1 + 1 ≡ i
     back = omega arith
 
     -- a row does not end before it starts
     pub row-rises : getD (p .starts) (i - 1) 0 ≤ getD (p .starts) i 0
-    row-rises = rw back at (row-order (p .n) (p .starts) (p .columns) fits (i - 1) (omega arith))
+    row-rises = rw back at (row-order (p .height) (p .starts) (p .columns) fits (i - 1) (omega arith))
 
     -- and it ends inside the columns
     pub row-ends : getD (p .starts) i 0 ≤ length (p .columns)
-    row-ends = rw back at (row-within (p .n) (p .starts) (p .columns) fits (i - 1) (omega arith))
+    row-ends = rw back at (row-within (p .height) (p .starts) (p .columns) fits (i - 1) (omega arith))
 
     -- a row lies from its start to the next one's
     pub row-is : rowOf p i ≡ slice (getD (p .starts) (i - 1) 0) (getD (p .starts) i 0) (p .columns)
@@ -127,36 +118,50 @@ module _ (p : Lent) (ready : Ready p) where
     pub row-size : span (p .starts) i ≡ length (rowOf p i)
     row-size = sym (ap length row-is ∙ length-slice (getD (p .starts) (i - 1) 0) (getD (p .starts) i 0) (p .columns) row-ends)
 
-    -- a row has an entry
-    pub row-some : getD (p .starts) (i - 1) 0 < getD (p .starts) i 0
-    row-some = let l = index-below i (rowOf p i) own in let e = row-size in omega arith
+    -- a row that ends where it starts is empty, and has no least column
+    pub row-empty : getD (p .starts) i 0 ≤ getD (p .starts) (i - 1) 0 → leastAbove 0 (rowOf p i) ≡ 0
+    unfolding leastAbove keep first
+    row-empty none = none-least (rowOf p i) (omega (arith, row-size))
+      where
+        none-least : (row : List ℕ) → length row ≡ 0 → leastAbove 0 row ≡ 0
+        none-least [] e = refl
+        none-least (x ∷ xs) e = absurd (omega arith)
 
-    -- its first column is its least
-    pub row-first : getD (p .columns) (getD (p .starts) (i - 1) 0) 0 ≡ leastAbove 0 (rowOf p i)
-    unfolding patternOf Ascending
-    row-first =
-        let e = row-is ∙ slice-cons (getD (p .starts) (i - 1) 0) (getD (p .starts) i 0) (p .columns) 0 row-some row-ends in
-        let a = rw e at (ready .plannable .ascending i low high) in
-        rw e (sym (first-least _ _ (a .0)))
+    -- so a row with a least column has an entry
+    pub row-some : 1 ≤ leastAbove 0 (rowOf p i) → getD (p .starts) (i - 1) 0 < getD (p .starts) i 0
+    row-some least = elim (decLe (getD (p .starts) i 0) (getD (p .starts) (i - 1) 0)) [
+      | yes none ↦ absurd (omega (arith, row-empty none))
+      | no some ↦ omega arith
+    ]
 
-    -- and is from 1 to n
-    pub least-low : 1 ≤ leastAbove 0 (rowOf p i)
-    least-low = least-above i 0 (rowOf p i) own low
+    module _ (some : getD (p .starts) (i - 1) 0 < getD (p .starts) i 0) where
+      leads : (x : ℕ) × (xs : List ℕ) × (rowOf p i ≡ x ∷ xs) × (x ≡ getD (p .columns) (getD (p .starts) (i - 1) 0) 0) × (1 ≤ x)
+      unfolding patternOf Ascending
+      leads =
+          let e = row-is ∙ slice-cons (getD (p .starts) (i - 1) 0) (getD (p .starts) i 0) (p .columns) 0 some row-ends in
+          (_, _, e, refl, rw e at (ready .plannable .ascending i low high) .0)
 
-    pub least-high : leastAbove 0 (rowOf p i) ≤ p .n
-    unfolding patternOf
-    least-high = ready .plannable .bounded i (leastAbove 0 (rowOf p i)) low high (least-member i 0 (rowOf p i) own low)
+      -- its first column is its least
+      pub row-first : getD (p .columns) (getD (p .starts) (i - 1) 0) 0 ≡ leastAbove 0 (rowOf p i)
+      row-first = let (x, xs, e, q, above) = leads in rw e (sym q ∙ sym (first-least x xs above))
 
-    -- what is read of it lies inside
-    pub row-place : RowPlace (p .n) (p .starts) (p .columns) i
-    row-place = record {
-      in-starts = let e = starts-size in omega arith;
-      in-columns = let a = row-some in let b = row-ends in omega arith;
-      column-high = rw row-first least-high;
-    }
+      -- and is from 1 to n
+      pub least-low : 1 ≤ leastAbove 0 (rowOf p i)
+      least-low = let (x, xs, e, q, above) = leads in rw (e, first-least x xs above) above
+
+      pub least-high : leastAbove 0 (rowOf p i) ≤ p .n
+      unfolding patternOf
+      least-high = ready .plannable .bounded i (leastAbove 0 (rowOf p i)) low high (least-nonzero-member 0 (rowOf p i) (λ e. omega (arith, least-low)))
+
+      -- what is read of it lies inside
+      pub row-place : RowPlace (p .n) (p .starts) (p .columns) i
+      row-place = record {
+        in-columns = let b = row-ends in omega arith;
+        column-high = rw row-first least-high;
+      }
 
   -- a row first met at a step is one of the pattern, and the step is its least column
-  pub first-in : (k i : ℕ) → 1 ≤ k → k ≤ p .n → member i (planOf p .firstMet k) ≡ true → (1 ≤ i) × (i ≤ p .n) × (leastAbove 0 (rowOf p i) ≡ k)
+  pub first-in : (k i : ℕ) → 1 ≤ k → k ≤ p .n → member i (planOf p .firstMet k) ≡ true → (1 ≤ i) × (i ≤ p .height) × (leastAbove 0 (rowOf p i) ≡ k)
   unfolding planOf patternOf
   first-in k i low high m = plan-facts (patternOf p) (ready .plannable) .first-met k i low high .0 m
 
@@ -170,51 +175,64 @@ module _ (p : Lent) (ready : Ready p) where
   unfolding rowsFrom planOf patternOf
   all-rows k low high =
       let t : ℕ → Bool = λ r. eqb (leastAbove 0 (rowOf p r)) k in
-      same-members-by 1 1 (keep t (between 1 (p .n))) (planOf p .firstMet k)
-      (ascending-keep 1 t (between 1 (p .n)) (ascending-between 1 (p .n)))
+      same-members-by 1 1 (keep t (between 1 (p .height))) (planOf p .firstMet k)
+      (ascending-keep 1 t (between 1 (p .height)) (ascending-between 1 (p .height)))
       (first-rows-ascend k low high)
       (λ i m.
-      let inside = kept-in i t (between 1 (p .n)) m in
+      let inside = kept-in i t (between 1 (p .height)) m in
       plan-facts (patternOf p) (ready .plannable) .first-met k i low high .1
-      (between-low i 1 (p .n) inside, between-high i 1 (p .n) inside, eqb-true (leastAbove 0 (rowOf p i)) k (kept-passes i t (between 1 (p .n)) m)))
+      (between-low i 1 (p .height) inside, between-high i 1 (p .height) inside, eqb-true (leastAbove 0 (rowOf p i)) k (kept-passes i t (between 1 (p .height)) m)))
       (λ i m.
       let r = first-in k i low high m in
-      in-keep i t (between 1 (p .n)) (in-between i 1 (p .n) (r .0) (r .1)) (eq-eqb (leastAbove 0 (rowOf p i)) k (r .2)))
+      in-keep i t (between 1 (p .height)) (in-between i 1 (p .height) (r .0) (r .1)) (eq-eqb (leastAbove 0 (rowOf p i)) k (r .2)))
 
   -- no row is chained yet
-  pub rows-start : (heads links : List ℕ) → heads ≡ replicate (suc (p .n)) 0 → links ≡ replicate (suc (p .n)) 0 → Chained heads links (p .n) (rowsFrom p (p .n))
+  pub rows-start : (heads links : List ℕ) → heads ≡ replicate (suc (p .height)) 0 → links ≡ replicate (suc (p .height)) 0
+      → Chained heads links (p .height) (p .n) (rowsFrom p (p .height))
   unfolding rowsFrom between run keep
   rows-start heads links e f =
       rw (e, f)
-      (chained-cong _ _ (p .n) (λ k. []) (rowsFrom p (p .n))
-      (λ k low high. let none : suc (p .n) - suc (p .n) ≡ 0 = omega arith in rw none)
-      (chained-none (p .n)))
+      (chained-cong _ _ (p .height) (p .n) (λ k. []) (rowsFrom p (p .height))
+      (λ k low high. let none : suc (p .height) - suc (p .height) ≡ 0 = omega arith in rw none)
+      (chained-none (p .height) (p .n) (ready .tall)))
 
-  -- row i joins the chain of its first column
-  pub rows-turn : (heads links heads′ links′ : List ℕ) (i column : ℕ) → 0 < i → i ≤ p .n → column ≡ getD (p .columns) (getD (p .starts) (i - 1) 0) 0
-      → heads′ ≡ set heads column i → links′ ≡ set links i (getD heads column 0)
-      → Chained heads links (p .n) (rowsFrom p i) → Chained heads′ links′ (p .n) (rowsFrom p (i - 1))
-  unfolding rowsFrom keep update
-  rows-turn heads links heads′ links′ i column low high here e f h =
-      let c : column ≡ leastAbove 0 (rowOf p i) = here ∙ row-first i low high in
-      let t : ℕ → ℕ → Bool = λ k r. eqb (leastAbove 0 (rowOf p r)) k in
-      let more : between (suc (i - 1)) (p .n) ≡ i ∷ between (suc i) (p .n) = let b : suc (i - 1) ≡ i = omega arith in rw b (between-cons i (p .n) high) in
-      rw (e, f)
-      (chained-cong _ _ (p .n) (update (rowsFrom p i) column (i ∷ rowsFrom p i column)) (rowsFrom p (i - 1))
-      (λ k l u. rw more (by-test (eqb k column)
-      (λ q. let w : column ≡ k = sym (eqb-true k column q) in rw (q, eq-eqb (leastAbove 0 (rowOf p i)) k (sym c ∙ w), w))
-      (λ q. rw (q, ne-eqb (leastAbove 0 (rowOf p i)) k (λ w. eqb-false k column q (sym (c ∙ w)))))))
-      (chained-push heads links (p .n) (rowsFrom p i) column i
-      (rw c (least-low i low high)) (rw c (least-high i low high)) low high
-      (λ j l u m. let b = between-low i (suc i) (p .n) (kept-in i (t j) (between (suc i) (p .n)) m) in omega arith)
-      h))
+  module _ (i : ℕ) (low : 1 ≤ i) (high : i ≤ p .height) where
+    -- one row more
+    more : between (suc (i - 1)) (p .height) ≡ i ∷ between (suc i) (p .height)
+    more = let b : suc (i - 1) ≡ i = omega arith in rw b (between-cons i (p .height) high)
+
+    -- an empty row joins no chain
+    pub rows-pass : getD (p .starts) i 0 ≤ getD (p .starts) (i - 1) 0 → {heads links : List ℕ}
+        → Chained heads links (p .height) (p .n) (rowsFrom p i) → Chained heads links (p .height) (p .n) (rowsFrom p (i - 1))
+    unfolding rowsFrom keep
+    rows-pass none {heads} {links} h =
+        chained-cong heads links (p .height) (p .n) (rowsFrom p i) (rowsFrom p (i - 1))
+        (λ k l u. rw (more, row-empty i low high none, ne-eqb 0 k (λ e. omega arith))) h
+
+    -- another one joins the chain of its first column
+    pub rows-turn : getD (p .starts) (i - 1) 0 < getD (p .starts) i 0 → (heads links heads′ links′ : List ℕ) (column : ℕ) → column ≡ getD (p .columns) (getD (p .starts) (i - 1) 0) 0
+        → heads′ ≡ set heads column i → links′ ≡ set links i (getD heads column 0)
+        → Chained heads links (p .height) (p .n) (rowsFrom p i) → Chained heads′ links′ (p .height) (p .n) (rowsFrom p (i - 1))
+    unfolding rowsFrom keep update
+    rows-turn some heads links heads′ links′ column here e f h =
+        let c : column ≡ leastAbove 0 (rowOf p i) = here ∙ row-first i low high some in
+        let t : ℕ → ℕ → Bool = λ k r. eqb (leastAbove 0 (rowOf p r)) k in
+        rw (e, f)
+        (chained-cong _ _ (p .height) (p .n) (update (rowsFrom p i) column (i ∷ rowsFrom p i column)) (rowsFrom p (i - 1))
+        (λ k l u. rw more (by-test (eqb k column)
+        (λ q. let w : column ≡ k = sym (eqb-true k column q) in rw (q, eq-eqb (leastAbove 0 (rowOf p i)) k (sym c ∙ w), w))
+        (λ q. rw (q, ne-eqb (leastAbove 0 (rowOf p i)) k (λ w. eqb-false k column q (sym (c ∙ w)))))))
+        (chained-push heads links (p .height) (p .n) (rowsFrom p i) column i
+        (rw c (least-low i low high some)) (rw c (least-high i low high some)) low high
+        (λ j l u m. let b = between-low i (suc i) (p .height) (kept-in i (t j) (between (suc i) (p .height)) m) in omega arith)
+        h))
 
   -- ---- the rows that are not met
 
   -- the rows whose least column is k are those first met at step k
   rows-at : (k : ℕ) → 1 ≤ k → k ≤ p .n → rowsAt p k ≡ planOf p .firstMet k
   unfolding rowsAt rowsFrom upto between
-  rows-at k low high = sym (rw (less-one (p .n)) at (sym (all-rows k low high)))
+  rows-at k low high = sym (rw (less-one (p .height)) at (sym (all-rows k low high)))
 
   -- before its step, all of them are not met
   pub unmet-rows : (m k : ℕ) → m < k → k ≤ p .n → unmetAt p (after (patternOf p) m) k ≡ planOf p .firstMet k
@@ -240,17 +258,17 @@ module _ (p : Lent) (ready : Ready p) where
       rw (least-met (patternOf p) (ready .plannable) m i (r .0) (r .1) (omega (arith, r .2)) (omega (arith, r .2))) refl))
 
   -- every row is chained
-  pub rows-end : (heads links : List ℕ) (i : ℕ) → i ≡ 0 → Chained heads links (p .n) (rowsFrom p i) → Chained heads links (p .n) (unmetAt p (after (patternOf p) 0))
+  pub rows-end : (heads links : List ℕ) (i : ℕ) → i ≡ 0 → Chained heads links (p .height) (p .n) (rowsFrom p i) → Chained heads links (p .height) (p .n) (unmetAt p (after (patternOf p) 0))
   rows-end heads links i e h =
-      chained-cong heads links (p .n) (rowsFrom p 0) (unmetAt p (after (patternOf p) 0))
+      chained-cong heads links (p .height) (p .n) (rowsFrom p 0) (unmetAt p (after (patternOf p) 0))
       (λ k low high. all-rows k low high ∙ sym (unmet-rows 0 k (omega arith) high))
       (rw e at h)
 
   -- in the report's 2.2 of step k its rows are marked: their chain is emptied
-  pub rows-marked : (heads links : List ℕ) (k : ℕ) → 1 ≤ k → k ≤ p .n → Chained heads links (p .n) (unmetAt p (after (patternOf p) (k - 1)))
-      → Chained (set heads k 0) links (p .n) (unmetAt p (after (patternOf p) k))
+  pub rows-marked : (heads links : List ℕ) (k : ℕ) → 1 ≤ k → k ≤ p .n → Chained heads links (p .height) (p .n) (unmetAt p (after (patternOf p) (k - 1)))
+      → Chained (set heads k 0) links (p .height) (p .n) (unmetAt p (after (patternOf p) k))
   rows-marked heads links k low high h =
-      chained-cong (set heads k 0) links (p .n) (update (unmetAt p (after (patternOf p) (k - 1))) k []) (unmetAt p (after (patternOf p) k))
+      chained-cong (set heads k 0) links (p .height) (p .n) (update (unmetAt p (after (patternOf p) (k - 1))) k []) (unmetAt p (after (patternOf p) k))
       (λ j l u. by-test (eqb j k)
       (λ e. let q : j ≡ k = eqb-true j k e in rw (q, update-same) (sym (met-rows k k low (omega arith) high)))
       (λ e.
@@ -260,7 +278,7 @@ module _ (p : Lent) (ready : Ready p) where
         | yes b ↦ met-rows (k - 1) j l (omega arith) u ∙ sym (met-rows k j l b u)
         | no b ↦ unmet-rows (k - 1) j (omega arith) u ∙ sym (unmet-rows k j (omega arith) u)
       ]))
-      (chained-drop heads links (p .n) (unmetAt p (after (patternOf p) (k - 1))) k low high h)
+      (chained-drop heads links (p .height) (p .n) (unmetAt p (after (patternOf p) (k - 1))) k low high h)
 
   -- ---- what walking the chains of a plan takes for granted
 
@@ -271,19 +289,9 @@ module _ (p : Lent) (ready : Ready p) where
       (λ i m. let r = first-in k i low high m in row-size i (r .0) (r .1))
 
   -- all rows have few entries together
-  few-entries : total (λ i. length (rowOf p i)) (upto (p .n)) ≤ 16384
+  few-entries : total (λ i. length (rowOf p i)) (upto (p .height)) ≤ 16384
   unfolding maxEntries
-  few-entries = omega (arith, rows-before p (ready .starts-fit) (p .n) (omega arith), fits .last, ready .entries)
-
-  -- and there is no more than one row for an entry
-  pub few-rows : p .n ≤ 16384
-  few-rows =
-      let some = total-le (λ i. 1) (λ i. length (rowOf p i)) (upto (p .n))
-      (λ i m.
-      let low = upto-low i (p .n) m in
-      let high = upto-high i (p .n) m in
-      omega (arith, row-size i low high, row-some i low high)) in
-      omega (arith, few-entries, total-constant 1 (upto (p .n)), length-upto (p .n))
+  few-entries = omega (arith, rows-before p (ready .starts-fit) (p .height) (omega arith), fits .last, ready .entries)
 
   -- the rows first met at a step may be walked
   pub rows-walk : (k : ℕ) → 1 ≤ k → k ≤ p .n → (links : List ℕ) (head : ℕ) → Linked links head (planOf p .firstMet k) → RowsWalk links head (p .starts) (planOf p .firstMet k)
@@ -298,8 +306,8 @@ module _ (p : Lent) (ready : Ready p) where
               arith,
               few-entries,
               rows-total k low high,
-              total-within (λ i. length (rowOf p i)) rows (upto (p .n)) (ascending-once 1 rows (first-rows-ascend k low high))
-                  (λ i m. let r = first-in k i low high m in in-upto i (p .n) (r .0) (r .1)),
+              total-within (λ i. length (rowOf p i)) rows (upto (p .height)) (ascending-once 1 rows (first-rows-ascend k low high))
+                  (λ i m. let r = first-in k i low high m in in-upto i (p .height) (r .0) (r .1)),
             );
       }
 
@@ -338,12 +346,12 @@ module _ (p : Lent) (ready : Ready p) where
       )
 
   -- the two lists of all steps together have few members
-  few-members : total (λ l. length (planOf p .L l) + length (planOf p .U l)) (upto (p .n)) ≤ 536870912
+  few-members : total (λ l. length (planOf p .L l) + length (planOf p .U l)) (upto (p .n)) < 4294967296
   unfolding planOf plan patternOf sizesOf
   few-members =
       let n = p .n in
-      let a : n * (n + n) ≤ n * 32768 = mul-le-mul-left n (omega (arith, few-rows)) in
-      omega (arith, a, few-rows, sizes-within (patternOf p) (ready .plannable))
+      let a : n * (p .height + n) ≤ n * 4096 = mul-le-mul-left n (omega (arith, ready .few, ready .tall)) in
+      omega (arith, a, ready .few, ready .tall, sizes-within (patternOf p) (ready .plannable))
 
   module _ (k : ℕ) (low : 1 ≤ k) (high : k ≤ p .n) (lowers uppers : List ℕ) (ls : SlotsTo (planOf p) lower k lowers) (us : SlotsTo (planOf p) upper k uppers) where
     -- the spans of an earlier step are the sizes of its lists
@@ -364,12 +372,12 @@ module _ (p : Lent) (ready : Ready p) where
     steps-total = total-cong (bothSpans lowers uppers) (λ l. length (planOf p .L l) + length (planOf p .U l)) (planOf p .S k) step-size
 
     -- the steps of S_k may be walked
-    pub steps-walk : (links : List ℕ) (head : ℕ) → length links ≡ suc (p .n) → Linked links head (planOf p .S k) → StepsWalk links head lowers uppers (planOf p .S k)
+    pub steps-walk : (links : List ℕ) (head : ℕ) → length links ≡ suc (p .height) → Linked links head (planOf p .S k) → StepsWalk links head lowers uppers (planOf p .S k)
     steps-walk links head e h =
         let steps = planOf p .S k in
         record {
           linked = h;
-          falling = rw e (steps-fall k);
+          falling = rw e (falling-weaken (suc (p .n)) (suc (p .height)) (planOf p .S k) (omega (arith, ready .tall)) (steps-fall k));
           inside = λ l m. let r = step-in k l low m in (omega arith, omega arith);
           rising = λ l m. let r = step-in k l low m in (
             slot-rises (planOf p) lower k lowers ls l (r .0) (r .1),

@@ -33,14 +33,14 @@ pub facts : (p : Lent) → Ready p → PlanFacts (patternOf p) (planOf p)
 unfolding planOf
 facts p ready = plan-facts (patternOf p) (ready .plannable)
 
--- the members of L_k and U_k are at most n
-pub list-bounded : (p : Lent) → Ready p → (side : Side) (k x : ℕ) → member x (list (planOf p) side k) ≡ true → x ≤ p .n
+-- the members of L_k are rows, those of U_k columns, of which there are no more
+pub list-bounded : (p : Lent) → Ready p → (side : Side) (k x : ℕ) → member x (list (planOf p) side k) ≡ true → x ≤ p .height
 unfolding list patternOf
 list-bounded p ready lower k x m = facts p ready .lower-bounded k x m
-list-bounded p ready upper k x m = facts p ready .upper-bounded k x m
+list-bounded p ready upper k x m = omega (arith, ready .tall, facts p ready .upper-bounded k x m)
 
--- a kept list ascends from above its step, and ends at n
-pub kept-within : (p : Lent) → Ready p → (side : Side) (k : ℕ) → Within (suc k) (p .n) (kept (planOf p) side k)
+-- a kept list ascends from above its step, and ends at the last row
+pub kept-within : (p : Lent) → Ready p → (side : Side) (k : ℕ) → Within (suc k) (p .height) (kept (planOf p) side k)
 unfolding kept
 kept-within p ready side k =
     let xs : List ℕ = list (planOf p) side k in
@@ -54,13 +54,13 @@ kept-within p ready side k =
       bounded = λ x m. list-bounded p ready side k x (kept-in x other xs m);
     }
 
--- a kept list has no more members than there are steps behind its own
-pub kept-length : (p : Lent) → Ready p → (side : Side) (k : ℕ) → k ≤ p .n → length (kept (planOf p) side k) + k ≤ p .n
+-- a kept list has no more members than there are rows behind its own
+pub kept-length : (p : Lent) → Ready p → (side : Side) (k : ℕ) → k ≤ p .height → length (kept (planOf p) side k) + k ≤ p .height
 kept-length p ready side k h =
     let w = kept-within p ready side k in
     omega (
       arith,
-      ascending-length (suc k) (suc (p .n)) (kept (planOf p) side k) (omega arith) (w .ascending) (λ x m. omega (arith, w .bounded x m)),
+      ascending-length (suc k) (suc (p .height)) (kept (planOf p) side k) (omega arith) (w .ascending) (λ x m. omega (arith, w .bounded x m)),
     )
 
 -- ---- lists that are read out

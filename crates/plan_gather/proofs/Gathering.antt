@@ -23,9 +23,8 @@ use Rattle.foundation.proofs.Listed.{row-high, further-above}
 use Rattle.foundation.proofs.ReadsBound.{first-ascends}
 use Rattle.foundation.proofs.Steps.{fromRows, plan-list}
 use Rattle.foundation.proofs.InStep.{rows-lists, steps-lists}
-use Rattle.lists.proofs.Small.{below-size}
 use Rattle.lists.proofs.Places.{slice-part}
-use Rattle.plan_gather.specs.Ready.{Ready, planOf}
+use Rattle.plan_gather.specs.Ready.{lentBy, Ready, planOf}
 use Rattle.plan_gather.specs.Gathering.{without, omit, Within}
 use Rattle.plan_gather.specs.Steps.{keptRows, keptSteps}
 use Rattle.plan_pattern.proofs.Judging.{Fitted, row-order, row-within}
@@ -37,38 +36,33 @@ use Rattle.plan_gather.proofs.Joining.{omit-without, without-within, jo
 -- a row, as the part of the columns that the code lends
 pub record RowRead (n : ℕ) (starts columns : List ℕ) (i : ℕ) : Type 0 where
   pub low : 1 ≤ i
-  pub high : i ≤ n
-  pub size : length starts ≡ suc n
+  pub in-starts : i < length starts
   pub rising : getD starts (i - 1) 0 ≤ getD starts i 0
   pub inside : getD starts i 0 ≤ length columns
-  pub is : take (getD starts i 0 - getD starts (i - 1) 0) (drop (getD starts (i - 1) 0) columns) ≡ rowOf (lent n starts columns) i
+  pub is : take (getD starts i 0 - getD starts (i - 1) 0) (drop (getD starts (i - 1) 0) columns) ≡ rowOf (lentBy n starts columns) i
 
-pub row-in-starts : {n i : ℕ} {starts columns : List ℕ} → RowRead n starts columns i → i < length starts
-row-in-starts r = below-size (r .high) (r .size)
-
-pub row-read : (n : ℕ) (starts columns : List ℕ) → Fitted n starts columns → (i : ℕ) → 1 ≤ i → i ≤ n → RowRead n starts columns i
-unfolding rowOf lent
-row-read n starts columns fit zero low high = absurd (omega arith)
-row-read n starts columns fit (suc i) low high =
+pub row-read : (n height : ℕ) (starts columns : List ℕ) → Fitted height starts columns → (i : ℕ) → 1 ≤ i → i ≤ height → RowRead n starts columns i
+unfolding rowOf lentBy lent
+row-read n height starts columns fit zero low high = absurd (omega arith)
+row-read n height starts columns fit (suc i) low high =
     let e : suc i - 1 ≡ i = omega arith in
-    let rising : getD starts i 0 ≤ getD starts (suc i) 0 = rw add-one at (row-order n starts columns fit i (omega arith)) in
+    let rising : getD starts i 0 ≤ getD starts (suc i) 0 = rw add-one at (row-order height starts columns fit i (omega arith)) in
     record {
       low = low;
-      high = high;
-      size = fit .count;
+      in-starts = omega (arith, fit .count);
       rising = rw e rising;
-      inside = rw add-one at (row-within n starts columns fit i (omega arith));
+      inside = rw add-one at (row-within height starts columns fit i (omega arith));
       is = rw e (slice-part (getD starts i 0) (getD starts (suc i) 0) columns rising);
     }
 
 module _ (p : Lent) (ready : Ready p) (k : ℕ) (low : 1 ≤ k) (high : k ≤ p .n) where
   -- a row first met at k is a row
-  pub met-row : (i : ℕ) → member i (planOf p .firstMet k) ≡ true → (1 ≤ i) × (i ≤ p .n)
+  pub met-row : (i : ℕ) → member i (planOf p .firstMet k) ≡ true → (1 ≤ i) × (i ≤ p .height)
   unfolding patternOf
   met-row i m = let f = facts p ready .first-met k i low high .0 m in (f .0, f .1)
 
-  -- what it brings is k or more, and at most n
-  pub brings-within : (side : Side) (i : ℕ) → member i (planOf p .firstMet k) ≡ true → Within k (p .n) (brings (patternOf p) side i)
+  -- what it brings is k or more, and no more than there are rows
+  pub brings-within : (side : Side) (i : ℕ) → member i (planOf p .firstMet k) ≡ true → Within k (p .height) (brings (patternOf p) side i)
   unfolding brings patternOf planOf plan Ascending
   brings-within lower i m =
       record {
@@ -83,7 +77,7 @@ module _ (p : Lent) (ready : Ready p) (k : ℕ) (low : 1 ≤ k) (high : k ≤ p 
             let least = least-least x 0 1 (rowOf p i) up e (member-low x 1 (rowOf p i) up e) in
             let q = f .2 in
             omega arith;
-        bounded = λ x e. ready .plannable .bounded i x (f .0) (f .1) e;
+        bounded = λ x e. omega (arith, ready .tall, ready .plannable .bounded i x (f .0) (f .1) e);
       }
 
   -- the kept list after 2.2 is what the rows bring
@@ -101,15 +95,15 @@ module _ (p : Lent) (ready : Ready p) (k : ℕ) (low : 1 ≤ k) (high : k ≤ p 
       (λ i m. brings-within side i m .ascending)
       (λ i m. omit-without k (brings (patternOf p) side i) (brings-within side i m .ascending)))
 
-  rows-within : (side : Side) → Within k (p .n) (fromRows (patternOf p) side (planOf p .firstMet k))
+  rows-within : (side : Side) → Within k (p .height) (fromRows (patternOf p) side (planOf p .firstMet k))
   unfolding fromRows
-  rows-within side = joinAll-within k (p .n) (brings (patternOf p) side) [] (planOf p .firstMet k) (within-none k (p .n)) (brings-within side)
+  rows-within side = joinAll-within k (p .height) (brings (patternOf p) side) [] (planOf p .firstMet k) (within-none k (p .height)) (brings-within side)
 
   -- and that is within bounds
-  pub from-rows-within : (side : Side) → Within (suc k) (p .n) (keptRows p side k)
+  pub from-rows-within : (side : Side) → Within (suc k) (p .height) (keptRows p side k)
   from-rows-within side =
       let w = rows-within side in
-      rw (rows-kept side, omit-without k (fromRows (patternOf p) side (planOf p .firstMet k)) (w .ascending)) (without-within k (p .n) _ w)
+      rw (rows-kept side, omit-without k (fromRows (patternOf p) side (planOf p .firstMet k)) (w .ascending)) (without-within k (p .height) _ w)
 
   -- the rows first met at k ascend
   pub met-ascend : Ascending 0 (planOf p .firstMet k)
@@ -135,7 +129,7 @@ module _ (p : Lent) (ready : Ready p) (k : ℕ) (low : 1 ≤ k) (high : k ≤ p 
       rw t (le-leb k x (omega arith)))
 
   -- its kept list has no member below k
-  pub handed-within : (side : Side) (l : ℕ) → member l (planOf p .S k) ≡ true → Within k (p .n) (kept (planOf p) side l)
+  pub handed-within : (side : Side) (l : ℕ) → member l (planOf p .S k) ≡ true → Within k (p .height) (kept (planOf p) side l)
   handed-within side l m =
       record {
         ascending = rw (handed-from side l m) at (ascending-from l k (list (planOf p) side l) (facts p ready .ascending side l));

@@ -1,42 +1,58 @@
 -- A pattern that passes the judgement is ready for planning.
 use mathlib.Core.List.{List}
-use mathlib.Core.Path.{_≡_, refl, sym, _∙_}
-use Prim.Native.Nat.{ℕ, _*_, _≤_}
+use mathlib.Core.Path.{_≡_, refl, sym, ap, _∙_}
+use Prim.Native.Nat.{ℕ, suc, _*_, _≤_}
+use lib.ListN.{length}
 use native.Mathlib.Omega.{arith}
 use mir.Syntax.{w64}
 use mir.Val.{Fits}
-use Rattle.foundation.specs.Pattern.{Lent, lent, maxN, patternFault}
-use Rattle.foundation.proofs.Passing.{passes-starts, passes-small, passes-plannable}
-use Rattle.plan_gather.specs.Ready.{Ready}
+use Rattle.foundation.specs.Pattern.{Lent, lent, maxHeight, patternFault, startsFit}
+use Rattle.foundation.proofs.Passing.{passes-starts, passes-small, passes-height, passes-plannable}
+use Rattle.plan_gather.specs.Ready.{lentBy, Ready}
+use Rattle.plan_pattern.proofs.Judging.{fitted}
 
 -- A pattern that passes is ready for planning.
 pub ready : (most : ℕ) (p : Lent) → patternFault most p ≡ 0 → Ready p
-unfolding maxN
+unfolding maxHeight
 ready most p passes =
     let small = passes-small most p passes in
     record {
       plannable = passes-plannable most p passes;
       starts-fit = passes-starts most p passes;
       some = small .0;
-      few = omega (arith, small .2);
+      tall = passes-height most p passes .0;
+      few = passes-height most p passes .1;
       entries = small .3;
     }
 
--- a lent pattern has the rows that are said
-pub lent-n : (n : ℕ) (starts columns : List ℕ) → lent n starts columns .n ≡ n
-unfolding lent
-lent-n n starts columns = refl
+-- a lent pattern has the columns that are said
+pub lent-n : (n height : ℕ) (starts columns : List ℕ) → lent n height starts columns .n ≡ n
+unfolding lentBy lent
+lent-n n height starts columns = refl
 
-module _ (most n : ℕ) (starts columns : List ℕ) (fault : ℕ) (found : fault ≡ patternFault most (lent n starts columns)) where
-  -- a pattern without a fault is ready
-  pub fault-ready : fault ≡ 0 → Ready (lent n starts columns)
-  fault-ready none = ready most (lent n starts columns) (sym found ∙ none)
+module _ (most n height : ℕ) (starts columns : List ℕ) (fault : ℕ) (found : fault ≡ patternFault most (lent n height starts columns)) (none : fault ≡ 0) where
+  passes : patternFault most (lent n height starts columns) ≡ 0
+  passes = sym found ∙ none
+
+  -- a pattern without a fault has a start for each row, and one behind
+  pub fault-starts : length starts ≡ suc height
+  unfolding lentBy lent startsFit
+  fault-starts = fitted n height starts columns (passes-starts most (lent n height starts columns) passes) .count
+
+  -- so its row starts tell how many rows it has
+  pub fault-height : lent n height starts columns ≡ lentBy n starts columns
+  unfolding lentBy
+  fault-height = ap (λ (rows : ℕ). lent n rows starts columns) (omega (arith, fault-starts))
+
+  -- it is ready
+  pub fault-ready : Ready (lentBy n starts columns)
+  fault-ready = rw (sym fault-height) (ready most (lent n height starts columns) passes)
 
   -- and small
-  pub fault-few : fault ≡ 0 → n ≤ 65536
-  unfolding lent
-  fault-few none = fault-ready none .few
+  pub fault-few : (n ≤ 65536) × (height ≤ 65536)
+  unfolding lentBy lent maxHeight
+  fault-few = let (tall, few) = passes-height most (lent n height starts columns) passes in (omega arith, omega arith)
 
   -- so that the place behind its last step can be addressed
-  pub fault-place : fault ≡ 0 → Fits w64 (n * 8)
-  fault-place none = record { fits = omega (arith, fault-few none) }
+  pub fault-place : Fits w64 (n * 8)
+  fault-place = record { fits = omega (arith, fault-few) }

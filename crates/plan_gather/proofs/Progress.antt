@@ -28,7 +28,7 @@ use Rattle.store_lists.proofs.Chaining.{linked-next, chained-none}
 use Rattle.plan_gather.specs.Ready.{Ready, planOf}
 use Rattle.plan_gather.specs.Steps.{StepOf, ChainsOf, countedReads, unmetAt, ChainsAt, EndsAre, chainStores}
 use Rattle.plan_pattern.proofs.Judging.{Fitted, fitted}
-use Rattle.plan_gather.proofs.Chaining.{between-cons, few-rows, unmet-rows}
+use Rattle.plan_gather.proofs.Chaining.{between-cons, unmet-rows}
 use Rattle.plan_gather.proofs.Contains.{used-none}
 
 -- ---- the reads
@@ -47,16 +47,16 @@ module _ (p : Lent) (ready : Ready p) where
   entries-lent : entriesOf (patternOf p) ≡ length (p .columns)
   unfolding entriesOf patternOf lent startsFit
   entries-lent =
-      let fits : Fitted (p .n) (p .starts) (p .columns) = fitted (p .n) (p .starts) (p .columns) (ready .starts-fit) in
-      rows-before p (ready .starts-fit) (p .n) (omega arith) ∙ fits .last
+      let fits : Fitted (p .height) (p .starts) (p .columns) = fitted (p .n) (p .height) (p .starts) (p .columns) (ready .starts-fit) in
+      rows-before p (ready .starts-fit) (p .height) (omega arith) ∙ fits .last
 
   -- each entry is in one column
   columns-lent : total (λ k. length (column (patternOf p) k)) (upto (p .n)) ≡ length (p .columns)
   unfolding column entriesOf patternOf
   columns-lent =
-      count-both-ways (p .n) (rowOf p) (upto (p .n))
-      (λ i e. ready .plannable .ascending i (upto-low i (p .n) e) (upto-high i (p .n) e))
-      (λ i x e. ready .plannable .bounded i x (upto-low i (p .n) e) (upto-high i (p .n) e))
+      count-both-ways (p .n) (rowOf p) (upto (p .height))
+      (λ i e. ready .plannable .ascending i (upto-low i (p .height) e) (upto-high i (p .height) e))
+      (λ i x e. ready .plannable .bounded i x (upto-low i (p .height) e) (upto-high i (p .height) e))
       ∙ entries-lent
 
   -- after the last step, the reads are the plan's
@@ -85,11 +85,12 @@ module _ (p : Lent) (ready : Ready p) where
   unfolding planOf plan patternOf maxEntries
   reads-small k h =
       let n : ℕ = p .n in
-      let most : n * (n + n) ≤ n * 32768 = mul-le-mul-left n (omega (arith, few-rows p ready)) in
+      let most : n * (p .height + n) ≤ n * 4096 = mul-le-mul-left n (omega (arith, ready .few, ready .tall)) in
       omega (
         arith,
         most,
-        few-rows p ready,
+        ready .few,
+        ready .tall,
         ready .entries,
         entries-lent,
         reads-rise k h,
@@ -192,18 +193,18 @@ module _ (p : Lent) (n k : ℕ) (rowHeads rowLinks setHeads setLinks : List ℕ)
 
 -- its place can be addressed
 pub place-fits : {p : Lent} {n k : ℕ} → StepOf p n k → Fits w64 (k * 8)
-place-fits step = record { fits = omega (arith, step .high, step .same-n, step .ready .few) }
+place-fits step = record { fits = omega (arith, step .high, step .same-n, step .ready .tall, step .ready .few) }
 
 -- and lies in the heads of both kinds of chains
 pub row-head-inside :
     {p : Lent} {n k : ℕ} {rowHeads rowLinks setHeads setLinks : List ℕ} → StepOf p n k × ChainsAt p n (k - 1) (chainStores rowHeads rowLinks setHeads setLinks)
     → k < length rowHeads
-row-head-inside (step, chains) = omega (arith, step .high, chains .row-chains .heads-size)
+row-head-inside (step, chains) = omega (arith, step .high, chains .row-chains .within, chains .row-chains .heads-size)
 
 pub set-head-inside :
     {p : Lent} {n k : ℕ} {rowHeads rowLinks setHeads setLinks : List ℕ} → StepOf p n k × ChainsAt p n (k - 1) (chainStores rowHeads rowLinks setHeads setLinks)
     → k < length setHeads
-set-head-inside (step, chains) = omega (arith, step .high, chains .set-chains .heads-size)
+set-head-inside (step, chains) = omega (arith, step .high, chains .set-chains .within, chains .set-chains .heads-size)
 
 -- before the first step nothing is used, and the columns alone are counted
 pub ends-none : (p : Lent) → Ready p → (l u reads : ℕ) → l ≡ 0 → u ≡ 0 → reads ≡ length (p .columns) → EndsAre p 0 l u reads
@@ -241,8 +242,9 @@ module _ {p : Lent} {n k : ℕ} (step : StepOf p n k) where
 
 -- before the first step no step is in a set S
 pub chains-begin :
-    {p : Lent} {n : ℕ} {rowHeads rowLinks setHeads′ setLinks′ : List ℕ} (setHeads setLinks : List ℕ) → Chained rowHeads rowLinks n (unmetAt p (after (patternOf p) 0))
-    → length setHeads ≡ suc n → length setLinks ≡ suc n → Zeros setHeads setHeads′ × Zeros setLinks setLinks′
+    {p : Lent} {n : ℕ} {rowHeads rowLinks setHeads′ setLinks′ : List ℕ} (setHeads setLinks : List ℕ) → Chained rowHeads rowLinks (p .height) n (unmetAt p (after (patternOf p) 0))
+    → length setHeads ≡ suc (p .height) → length setLinks ≡ suc (p .height) → Zeros setHeads setHeads′ × Zeros setLinks setLinks′
     → ChainsAt p n 0 (chainStores rowHeads rowLinks setHeads′ setLinks′)
 unfolding after beforeSteps
-chains-begin {n = n} setHeads setLinks rows heads links (a, b) = record { row-chains = rows; set-chains = rw (a, b, heads, links) (chained-none n) }
+chains-begin {p} {n} setHeads setLinks rows heads links (a, b) =
+    record { row-chains = rows; set-chains = rw (a, b, heads, links) (chained-none (p .height) n (rows .within)) }

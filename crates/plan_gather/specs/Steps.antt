@@ -51,9 +51,13 @@ countedReads p s k = s .reads + total (λ j. length (column (patternOf p) j)) (b
 
 -- the rows whose least column is j
 unfoldable pub rowsAt : Lent → ℕ → List ℕ
-rowsAt p j = keep (λ i. eqb (leastAbove 0 (rowOf p i)) j) (upto (p .n))
+rowsAt p j = keep (λ i. eqb (leastAbove 0 (rowOf p i)) j) (upto (p .height))
 
--- those of them that are not met: the code marks a row as met by taking it out of its chain
+-- those of them that stand behind row i
+unfoldable pub rowsFrom : Lent → ℕ → ℕ → List ℕ
+rowsFrom p i j = keep (λ r. eqb (leastAbove 0 (rowOf p r)) j) (between (suc i) (p .height))
+
+-- of those with their least column j, the ones that are not met: the code marks a row as met by taking it out of its chain
 unfoldable pub unmetAt : Lent → Planning → ℕ → List ℕ
 unmetAt p s j = keep (λ i. not (s .met i)) (rowsAt p j)
 
@@ -69,8 +73,8 @@ chainStores rowHeads rowLinks setHeads setLinks = record { rowHeads = rowHeads; 
 
 -- the chains of the rows that are not met, and of the sets S, after k steps
 pub record ChainsAt (p : Lent) (n k : ℕ) (c : ChainStores) : Type 0 where
-  pub row-chains : Chained (c .rowHeads) (c .rowLinks) n (unmetAt p (after (patternOf p) k))
-  pub set-chains : Chained (c .setHeads) (c .setLinks) n (after (patternOf p) k .S)
+  pub row-chains : Chained (c .rowHeads) (c .rowLinks) (p .height) n (unmetAt p (after (patternOf p) k))
+  pub set-chains : Chained (c .setHeads) (c .setLinks) (p .height) n (after (patternOf p) k .S)
 
 -- where both stores end and what was read, after k steps
 pub record EndsAre (p : Lent) (k l u reads : ℕ) : Type 0 where

@@ -50,16 +50,16 @@ module _ {n k count : ℕ} {have xs more comes : List ℕ} (h : GrownIn n count 
   pub merge-grown :
       {have′ : List ℕ} {r : ℕ} → length have′ ≡ length have
       → (r ≡ length (union (take count have) comes)) × (take r have′ ≡ union (take count have) comes)
-      → (ys : List ℕ) → GrownIn n count have ys → GrownIn n r have′ (union ys (without k more))
-  merge-grown l (q, t) ys g =
+      → (m : ℕ) (ys : List ℕ) → GrownIn m count have ys → GrownIn m r have′ (union ys (without k more))
+  merge-grown l (q, t) m ys g =
       let same : ys ≡ xs = sym (g .is) ∙ h .is in
       let whole : union (take count have) comes ≡ union xs (without k more) = rw sub-zero at union-is in
       let f = union-fits in
       rw same
       (record {
-        store-size = l ∙ h .store-size;
+        store-size = l ∙ g .store-size;
         size = q ∙ ap length whole;
-        fits = rw (q ∙ ap length whole ∙ sym (ap length union-is)) f;
+        fits = rw (q ∙ ap length whole ∙ sym (ap length union-is)) (omega (arith, f, h .store-size, g .store-size));
         is = t ∙ whole;
       })
 
@@ -82,17 +82,17 @@ module _ {n k count : ℕ} {have xs more comes : List ℕ} (h : GrownIn n count 
     pub behind-grown :
         {have′ : List ℕ} {r : ℕ} → length have′ ≡ length have
         → (r ≡ count + length (added at comes)) × (have′ ≡ take count have ++ added at comes ++ drop (count + length (added at comes)) have)
-        → (ys : List ℕ) → GrownIn n count have ys → GrownIn n r have′ (union ys (without k more))
-    behind-grown {have′} {r} l (q, t) ys g =
+        → (m : ℕ) (ys : List ℕ) → GrownIn m count have ys → GrownIn m r have′ (union ys (without k more))
+    behind-grown {have′} {r} l (q, t) m ys g =
         let same : ys ≡ xs = sym (g .is) ∙ h .is in
         let room = behind-room in
         let size = h .size in
-        let list = h .store-size in
+        let list = g .store-size in
         let whole : union xs (without k more) ≡ xs ++ added at comes = rest-is ∙ rw (part-is comes at) in
         let long : r ≡ length (xs ++ added at comes) = q ∙ rw (size, length-append) in
         rw (same, whole)
         (record {
-          store-size = l ∙ h .store-size;
+          store-size = l ∙ g .store-size;
           size = long;
           fits = omega arith;
           is = rw (t, h .is) (take-at (xs ++ added at comes) _ r (sym long));

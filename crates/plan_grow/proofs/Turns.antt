@@ -23,13 +23,13 @@ use Rattle.foundation.specs.Subscripts.{kept}
 use Rattle.store_lists.specs.Chains.{Linked}
 use Rattle.store_place.specs.Places.{ListAsks}
 use Rattle.plan_pattern.proofs.Judging.{fitted}
-use Rattle.plan_gather.specs.Ready.{Ready, planOf}
+use Rattle.plan_gather.specs.Ready.{lentBy, Ready, planOf}
 use Rattle.plan_gather.specs.Gathering.{without, Within, GrownIn}
 use Rattle.plan_gather.specs.Steps.{StepOf, keptRows, keptSteps}
 use Rattle.plan_gather.proofs.Chaining.{step-in, steps-fall}
 use Rattle.plan_gather.proofs.Contains.{Opened, contains-opens, opened-asks}
 use Rattle.plan_gather.proofs.Gathering.{RowRead, row-read, met-row, met-ascend, brings-within, from-rows-is, from-rows-within, handed-within, from-steps-is}
-use Rattle.plan_gather.proofs.Joining.{within-to, within-none, within-length, joined-within, grown-none}
+use Rattle.plan_gather.proofs.Joining.{within-none, within-length, joined-within, grown-none}
 use Rattle.plan_gather.proofs.Turning.{step-high}
 use Rattle.plan_grow.specs.Growing.{StepsReady}
 use Rattle.plan_grow.proofs.Growing.{Gathers, gathers-here, gathers-order, gathers-turn}
@@ -44,9 +44,9 @@ left-some : (n i : ℕ) → (i ≡ 0 → ⊥) → left n i ≡ suc n - i
 left-some n i some = rw (ne-eqb i 0 some)
 
 -- what the rows of a chain, joined so far, are to make
-abbrev pub RowsJoined : Lent → Side → ℕ → ℕ → ℕ → (growing links : List ℕ) → ℕ → Type 0
-RowsJoined p side n k count growing links i =
-    Gathers n k count growing links i (Ascending 0) (λ r. without k (brings (patternOf p) side r)) (planOf p .firstMet k)
+abbrev pub RowsJoined : Lent → Side → ℕ → ℕ → (growing links : List ℕ) → ℕ → Type 0
+RowsJoined p side k count growing links i =
+    Gathers (p .height) k count growing links i (Ascending 0) (λ r. without k (brings (patternOf p) side r)) (planOf p .firstMet k)
     (keptRows p side k)
 
 -- an ascending chain goes on ascending
@@ -65,30 +65,30 @@ rows-rise {i = i} {links = links} g some more =
 
 -- and so the chain comes to its end
 pub rows-less :
-    {n k count i : ℕ} {growing links all whole : List ℕ} {part : ℕ → List ℕ}
-    → Gathers n k count growing links i (Ascending 0) part all whole → (i ≡ 0 → ⊥) → i ≤ n → left n (getD links i 0) < left n i
-rows-less {n} {i = i} {links = links} g some high =
+    {room n k count i : ℕ} {growing links all whole : List ℕ} {part : ℕ → List ℕ}
+    → Gathers room k count growing links i (Ascending 0) part all whole → (i ≡ 0 → ⊥) → i ≤ n → left n (getD links i 0) < left n i
+rows-less {n = n} {i = i} {links = links} g some high =
     rw (left-some n i some)
     (by-test (eqb (getD links i 0) 0)
     (λ e. rw e (omega arith))
     (λ e. let l = rows-rise g some (eqb-false (getD links i 0) 0 e) in rw e (omega arith)))
 
 -- step k of a pattern that is lent
-pub lent-step : (n : ℕ) (starts columns : List ℕ) {k : ℕ} → Ready (lent n starts columns) × (1 ≤ k) × (k ≤ n) → StepOf (lent n starts columns) n k
-unfolding lent
+pub lent-step : (n : ℕ) (starts columns : List ℕ) {k : ℕ} → Ready (lentBy n starts columns) × (1 ≤ k) × (k ≤ n) → StepOf (lentBy n starts columns) n k
+unfolding lentBy lent
 lent-step n starts columns (ready, low, high) = record { ready = ready; same-n = refl; low = low; high = high }
 
 module _ {p : Lent} {n k : ℕ} (of : StepOf p n k) where
   -- the chain from its first member on
   pub rows-start :
-      (side : Side) (growing links : List ℕ) (first : ℕ) → length growing ≡ n → Linked links first (planOf p .firstMet k)
-      → RowsJoined p side n k 0 growing links first
+      (side : Side) (growing links : List ℕ) (first : ℕ) → length growing ≡ p .height → Linked links first (planOf p .firstMet k)
+      → RowsJoined p side k 0 growing links first
   rows-start side growing links first size h =
       record {
         so-far = [];
         rest = planOf p .firstMet k;
-        grown = grown-none n growing size;
-        within = within-none (suc k) n;
+        grown = grown-none (p .height) growing size;
+        within = within-none (suc k) (p .height);
         linked = h;
         ordered = met-ascend p (of .ready) k (of .low) (step-high of);
         among = λ i e. e;
@@ -97,37 +97,37 @@ module _ {p : Lent} {n k : ℕ} (of : StepOf p n k) where
 
   -- what a row first met brings lies within bounds
   pub brought-within :
-      (side : Side) (i : ℕ) → member i (planOf p .firstMet k) ≡ true → (more : List ℕ) → more ≡ brings (patternOf p) side i → Within k n more
-  brought-within side i m more e = rw e (within-to k _ (of .same-n) (brings-within p (of .ready) k (of .low) (step-high of) side i m))
+      (side : Side) (i : ℕ) → member i (planOf p .firstMet k) ≡ true → (more : List ℕ) → more ≡ brings (patternOf p) side i → Within k (p .height) more
+  brought-within side i m more e = rw e (brings-within p (of .ready) k (of .low) (step-high of) side i m)
 
 -- ---- their columns
 
-module _ (n : ℕ) (starts columns : List ℕ) {k : ℕ} (of : StepOf (lent n starts columns) n k) (i : ℕ)
-    (m : member i (planOf (lent n starts columns) .firstMet k) ≡ true) where
+module _ (n : ℕ) (starts columns : List ℕ) {k : ℕ} (of : StepOf (lentBy n starts columns) n k) (i : ℕ)
+    (m : member i (planOf (lentBy n starts columns) .firstMet k) ≡ true) where
   -- a row first met is read
   pub row-turn : RowRead n starts columns i
-  unfolding lent
+  unfolding lentBy lent
   row-turn =
-      let r = met-row (lent n starts columns) (of .ready) k (of .low) (of .high) i m in
-      row-read n starts columns (fitted n starts columns (of .ready .starts-fit)) i (r .0) (r .1)
+      let r = met-row (lentBy n starts columns) (of .ready) k (of .low) (of .high) i m in
+      row-read n (length starts - 1) starts columns (fitted n (length starts - 1) starts columns (of .ready .starts-fit)) i (r .0) (r .1)
 
   -- what the code joins is what the row brings to U
   pub columns-brought :
-      take (getD starts i 0 - getD starts (i - 1) 0) (drop (getD starts (i - 1) 0) columns) ≡ brings (patternOf (lent n starts columns)) upper i
+      take (getD starts i 0 - getD starts (i - 1) 0) (drop (getD starts (i - 1) 0) columns) ≡ brings (patternOf (lentBy n starts columns)) upper i
   unfolding brings patternOf
   columns-brought = row-turn .is
 
 -- ---- their own numbers
 
 -- What the rows of a chain, joined so far, are to make of L. They are all below the row that comes next.
-pub record NumbersJoined (p : Lent) (n k count : ℕ) (growing links : List ℕ) (i : ℕ) : Type 0 where
-  pub joined : RowsJoined p lower n k count growing links i
+pub record NumbersJoined (p : Lent) (k count : ℕ) (growing links : List ℕ) (i : ℕ) : Type 0 where
+  pub joined : RowsJoined p lower k count growing links i
   pub below : (x : ℕ) → member x (take count growing) ≡ true → (i ≡ 0 → ⊥) → x < i
 
 -- the chain from its first member on
 pub numbers-start :
-    {p : Lent} {n k : ℕ} → StepOf p n k → (growing links : List ℕ) (first : ℕ) → length growing ≡ n → Linked links first (planOf p .firstMet k)
-    → NumbersJoined p n k 0 growing links first
+    {p : Lent} {n k : ℕ} → StepOf p n k → (growing links : List ℕ) (first : ℕ) → length growing ≡ p .height → Linked links first (planOf p .firstMet k)
+    → NumbersJoined p k 0 growing links first
 numbers-start of growing links first size h =
     record { joined = rows-start of lower growing links first size h; below = λ x m some. absurd (not-member-nil x m) }
 
@@ -139,15 +139,15 @@ alone k i x m =
     (λ e. absurd (not-member-nil x (rw e at m)))
     (λ e. ⊎-elim (λ q. q) (λ none. absurd (not-member-nil x none)) (member-cases x i [] (rw e at m)))
 
-module _ {p : Lent} {n k count i : ℕ} {growing links : List ℕ} (of : StepOf p n k) (j : NumbersJoined p n k count growing links i)
+module _ {p : Lent} {n k count i : ℕ} {growing links : List ℕ} (of : StepOf p n k) (j : NumbersJoined p k count growing links i)
     (some : i ≡ 0 → ⊥) where
   -- what the row brings, itself alone, lies within bounds
-  number-within : Within k n (i ∷ [])
+  number-within : Within k (p .height) (i ∷ [])
   unfolding brings
   number-within = brought-within of lower i (gathers-here (j .joined) some .0) (i ∷ []) refl
 
-  -- the row is one of n
-  pub number-high : i ≤ n
+  -- the row is one of the pattern's
+  pub number-high : i ≤ p .height
   number-high = number-within .bounded i (member-head i [])
 
   -- and all that is grown is below it
@@ -155,7 +155,7 @@ module _ {p : Lent} {n k count i : ℕ} {growing links : List ℕ} (of : StepOf 
   so-far-below x m = j .below x (rw (j .joined .grown .is) m) some
 
   -- k itself is left out
-  pub number-passed : i ≡ k → GrownIn n count growing (union (j .joined .so-far) (without k (i ∷ [])))
+  pub number-passed : i ≡ k → GrownIn (p .height) count growing (union (j .joined .so-far) (without k (i ∷ [])))
   unfolding without
   number-passed e = rw (eq-eqb i k e, union-nil-right) (j .joined .grown)
 
@@ -167,15 +167,15 @@ module _ {p : Lent} {n k count i : ℕ} {growing links : List ℕ} (of : StepOf 
         union-append (j .joined .so-far) (without k (i ∷ [])) (λ x y m e. rw (alone k i y e) (so-far-below x m)) ∙ rw (ne-eqb i k other)
 
     -- there is a place for it
-    pub number-place : count < n
+    pub number-place : count < p .height
     number-place =
         let size = j .joined .grown .size in
-        let fits = within-length k n _ (joined-within k n (j .joined .so-far) (i ∷ []) (j .joined .within) number-within) in
+        let fits = within-length k (p .height) _ (joined-within k (p .height) (j .joined .so-far) (i ∷ []) (j .joined .within) number-within) in
         let long = ap length behind-all ∙ length-append (j .joined .so-far) (i ∷ []) in
         omega arith
 
     -- where it is written
-    pub number-added : GrownIn n (count + 1) (set growing count i) (union (j .joined .so-far) (without k (i ∷ [])))
+    pub number-added : GrownIn (p .height) (count + 1) (set growing count i) (union (j .joined .so-far) (without k (i ∷ [])))
     number-added =
         let g = j .joined .grown in
         let place = number-place in
@@ -189,8 +189,8 @@ module _ {p : Lent} {n k count i : ℕ} {growing links : List ℕ} (of : StepOf 
 
   -- either way the chain goes on
   pub numbers-turn :
-      {count′ : ℕ} {growing′ : List ℕ} → GrownIn n count′ growing′ (union (j .joined .so-far) (without k (i ∷ [])))
-      → NumbersJoined p n k count′ growing′ links (getD links i 0)
+      {count′ : ℕ} {growing′ : List ℕ} → GrownIn (p .height) count′ growing′ (union (j .joined .so-far) (without k (i ∷ [])))
+      → NumbersJoined p k count′ growing′ links (getD links i 0)
   unfolding brings
   numbers-turn h =
       record {
@@ -206,7 +206,7 @@ module _ {p : Lent} {n k count i : ℕ} {growing links : List ℕ} (of : StepOf 
 -- what the steps of a chain, joined so far, are to make
 abbrev pub StepsJoined : Lent → Side → ℕ → ℕ → ℕ → (growing links : List ℕ) → ℕ → Type 0
 StepsJoined p side n k count growing links l =
-    Gathers n k count growing links l (Falling (suc n)) (λ m. without k (kept (planOf p) side m)) (planOf p .S k) (keptSteps p side k)
+    Gathers (p .height) k count growing links l (Falling (suc n)) (λ m. without k (kept (planOf p) side m)) (planOf p .S k) (keptSteps p side k)
 
 -- a falling chain goes on falling
 pub steps-on : (n l : ℕ) (later : List ℕ) → Falling (suc n) (l ∷ later) → Falling (suc n) later
@@ -215,10 +215,10 @@ steps-on n l later h = falling-weaken l (suc n) later (omega arith) (h .1)
 
 -- and so comes to its end
 pub steps-less :
-    {n k count l : ℕ} {growing links all whole : List ℕ} {part : ℕ → List ℕ}
-    → Gathers n k count growing links l (Falling (suc n)) part all whole → (l ≡ 0 → ⊥) → getD links l 0 < l
+    (n : ℕ) {room k count l : ℕ} {growing links all whole : List ℕ} {part : ℕ → List ℕ}
+    → Gathers room k count growing links l (Falling (suc n)) part all whole → (l ≡ 0 → ⊥) → getD links l 0 < l
 unfolding Falling
-steps-less {l = l} {links = links} g some =
+steps-less n {l = l} {links = links} g some =
     let (later, down, next) = gathers-order g some in
     ⊎-elim (λ z. omega arith) (λ m. falling-high (getD links l 0) l later (down .1) m) next
 
@@ -230,7 +230,7 @@ pub record StepRead (p : Lent) (side : Side) (n k l : ℕ) (i : SideStores) : Ty
   pub starts-size : length (i .starts) ≡ n
   pub slots-size : length (i .slotStarts) ≡ suc n
   pub opens : Opened (planOf p) side l i
-  pub within : Within k n (kept (planOf p) side l)
+  pub within : Within k (p .height) (kept (planOf p) side l)
 
 -- its place can be told
 pub step-asks : {p : Lent} {side : Side} {n k l : ℕ} {i : SideStores} → StepRead p side n k l i → length (i .subs) * 8 < 2 ^ 63 → ListAsks (i .starts) (i .slotStarts) l
@@ -250,7 +250,7 @@ module _ {p : Lent} {side : Side} {n k first : ℕ} {links : List ℕ} {i : Side
         so-far = keptRows p side k;
         rest = planOf p .S k;
         grown = s .grown;
-        within = within-to (suc k) _ e (from-rows-within p (s .step .ready) k low (omega arith) side);
+        within = from-rows-within p (s .step .ready) k low (omega arith) side;
         linked = s .linked;
         ordered = falling-weaken (suc (p .n)) (suc n) (planOf p .S k) (omega arith) (steps-fall p (s .step .ready) k);
         among = λ i m. m;
@@ -271,5 +271,5 @@ module _ {p : Lent} {side : Side} {n k first : ℕ} {links : List ℕ} {i : Side
         starts-size = s .contained .starts-size;
         slots-size = s .contained .slots-size;
         opens = contains-opens (s .step .ready) e (omega arith) (s .contained) l (h .0) (omega arith);
-        within = within-to k _ e (handed-within p (s .step .ready) k low (omega arith) side l m);
+        within = handed-within p (s .step .ready) k low (omega arith) side l m;
       }

@@ -15,4 +15,4 @@ pub record StepsReady (p : Lent) (side : Side) (n k first : â„•) (links : List â
   pub step : StepOf p n k
   pub linked : Linked links first (planOf p .S k)
   pub contained : Contains (planOf p) side n (k - 1) i
-  pub grown : GrownIn n count growing (keptRows p side k)
+  pub grown : GrownIn (p .height) count growing (keptRows p side k)

@@ -4,11 +4,11 @@ ghost use mathlib.Core.Path.{_≡_};
 ghost use Prim.Native.Nat.{ℕ, suc, _≤_};
 ghost use lib.ListN.{length};
 ghost use Rattle.lists.specs.Sets.{union};
-ghost use Rattle.foundation.specs.Pattern.{Lent, lent};
+ghost use Rattle.foundation.specs.Pattern.{Lent};
 ghost use Rattle.foundation.specs.Plan.{Side, lower, upper};
 ghost use Rattle.answers.specs.Stores.{sideStores};
 ghost use Rattle.store_lists.specs.Chains.{Linked};
-ghost use Rattle.plan_gather.specs.Ready.{Ready, planOf, sideOf};
+ghost use Rattle.plan_gather.specs.Ready.{lentBy, Ready, planOf, sideOf};
 ghost use Rattle.plan_gather.specs.Gathering.{without, Within, GrownIn};
 ghost use Rattle.plan_gather.specs.Steps.{StepOf, keptRows, keptSteps};
 ghost use Rattle.plan_grow.specs.Growing.{StepsReady};
@@ -22,16 +22,10 @@ use store_search::search_behind;
 
 // A list joins the growing one, without the step at hand, k: how many members there are then. A search tells whether it only adds behind the end: then
 // it is appended, and else merged in place. It is searched where it is likely to add nothing, or only behind the end.
-fn join(
-    search: bool,
-    n: usize,
-    k: usize,
-    more: &[usize],
-    count: usize,
-    growing: &mut [usize],
-) -> usize
-    requires { ⌜ ((xs : List ℕ) × GrownIn n count (now growing) xs × Within (suc k) n xs × Within k n (now more)) ⌝ }
-    ensures { λ r. ⌜ ((xs : List ℕ) → GrownIn n count (now (growing .entry)) xs → GrownIn n r (now (growing .exit)) (union xs (without k (now (more .entry))))) ⌝ }
+fn join(search: bool, k: usize, more: &[usize], count: usize, growing: &mut [usize]) -> usize
+    requires { ⌜ ((room : ℕ) × (xs : List ℕ) × GrownIn room count (now growing) xs × Within (suc k) room xs × Within k room (now more)) ⌝ }
+    ensures { λ r. ⌜ ((room : ℕ) (xs : List ℕ) → GrownIn room count (now (growing .entry)) xs
+        → GrownIn room r (now (growing .exit)) (union xs (without k (now (more .entry))))) ⌝ }
 {
     let comes = after_first(k, more);
     if search {
@@ -52,17 +46,17 @@ fn columns_of(
     columns: &[usize],
     growing: &mut [usize],
 ) -> usize
-    requires { ⌜ Ready (lent n (now starts) (now columns)) × (1 ≤ k) × (k ≤ n) ⌝ }
-    requires { ⌜ Linked (now links) first (planOf (lent n (now starts) (now columns)) .firstMet k) ⌝ }
-    requires { ⌜ length (now growing) ≡ n ⌝ }
-    ensures { λ r. ⌜ GrownIn n r (now (growing .exit)) (keptRows (lent n (now (starts .entry)) (now (columns .entry))) upper k) ⌝ }
+    requires { ⌜ Ready (lentBy n (now starts) (now columns)) × (1 ≤ k) × (k ≤ n) ⌝ }
+    requires { ⌜ Linked (now links) first (planOf (lentBy n (now starts) (now columns)) .firstMet k) ⌝ }
+    requires { ⌜ length (now growing) ≡ lentBy n (now starts) (now columns) .height ⌝ }
+    ensures { λ r. ⌜ GrownIn (lentBy n (now (starts .entry)) (now (columns .entry)) .height) r (now (growing .exit)) (keptRows (lentBy n (now (starts .entry)) (now (columns .entry))) upper k) ⌝ }
 {
     let mut count = 0;
     let mut i = first;
     while i != 0 {
         let from = starts[i - 1];
         let to = starts[i];
-        count = join(true, n, k, &columns[from..to], count, growing);
+        count = join(true, k, &columns[from..to], count, growing);
         i = links[i];
     }
     count
@@ -70,10 +64,9 @@ fn columns_of(
 
 // What they bring to L: themselves, in ascending order, without k.
 fn numbers_of(n: usize, k: usize, first: usize, links: &[usize], growing: &mut [usize]) -> usize
-    requires { ⌜ ((p : Lent) × StepOf p n k × Linked (now links) first (planOf p .firstMet k)) ⌝ }
-    requires { ⌜ length (now growing) ≡ n ⌝ }
-    ensures { λ r. ⌜ ((p : Lent) → StepOf p n k → Linked (now (links .entry)) first (planOf p .firstMet k)
-        → GrownIn n r (now (growing .exit)) (keptRows p lower k)) ⌝ }
+    requires { ⌜ ((p : Lent) × StepOf p n k × Linked (now links) first (planOf p .firstMet k) × (length (now growing) ≡ p .height)) ⌝ }
+    ensures { λ r. ⌜ ((p : Lent) → StepOf p n k → Linked (now (links .entry)) first (planOf p .firstMet k) → length (now (growing .entry)) ≡ p .height
+        → GrownIn (p .height) r (now (growing .exit)) (keptRows p lower k)) ⌝ }
 {
     let mut count = 0;
     let mut i = first;
@@ -98,10 +91,10 @@ pub fn from_rows(
     columns: &[usize],
     growing: &mut [usize],
 ) -> usize
-    requires { ⌜ Ready (lent n (now starts) (now columns)) × (1 ≤ k) × (k ≤ n) ⌝ }
-    requires { ⌜ Linked (now links) first (planOf (lent n (now starts) (now columns)) .firstMet k) ⌝ }
-    requires { ⌜ length (now growing) ≡ n ⌝ }
-    ensures { λ r. ⌜ GrownIn n r (now (growing .exit)) (keptRows (lent n (now (starts .entry)) (now (columns .entry))) (sideOf upper) k) ⌝ }
+    requires { ⌜ Ready (lentBy n (now starts) (now columns)) × (1 ≤ k) × (k ≤ n) ⌝ }
+    requires { ⌜ Linked (now links) first (planOf (lentBy n (now starts) (now columns)) .firstMet k) ⌝ }
+    requires { ⌜ length (now growing) ≡ lentBy n (now starts) (now columns) .height ⌝ }
+    ensures { λ r. ⌜ GrownIn (lentBy n (now (starts .entry)) (now (columns .entry)) .height) r (now (growing .exit)) (keptRows (lentBy n (now (starts .entry)) (now (columns .entry))) (sideOf upper) k) ⌝ }
 {
     if upper {
         return columns_of(n, k, first, links, starts, columns, growing);
@@ -124,7 +117,7 @@ pub fn from_steps(
     requires { ⌜ ((p : Lent) × (side : Side) × StepsReady p side n k first (now links) (sideStores (now subs) (now starts) (now slots)) gathered (now growing)) ⌝ }
     ensures { λ r. ⌜ ((p : Lent) (side : Side)
         → StepsReady p side n k first (now (links .entry)) (sideStores (now (subs .entry)) (now (starts .entry)) (now (slots .entry))) gathered (now (growing .entry))
-        → GrownIn n r (now (growing .exit)) (keptSteps p side k)) ⌝ }
+        → GrownIn (p .height) r (now (growing .exit)) (keptSteps p side k)) ⌝ }
 {
     let mut count = gathered;
     let mut l = first;
@@ -132,7 +125,6 @@ pub fn from_steps(
         let lies = list_place(starts, slots, l);
         count = join(
             count == 0,
-            n,
             k,
             list_at(subs, lies.from, lies.to),
             count,

@@ -4,11 +4,11 @@ use mathlib.Core.Path.{_≡_, refl, ap, _∙_}
 use Prim.Native.Nat.{ℕ, _+_, _-_}
 use native.Mathlib.Omega.{arith}
 use lib.ListN.{length, take, drop, getD, set}
-use Rattle.foundation.specs.Pattern.{Lent, lent, patternOf}
+use Rattle.foundation.specs.Pattern.{Lent, patternOf}
 use Rattle.foundation.specs.Plan.{Side, lower, upper, brings}
 use Rattle.foundation.specs.PlanCall.{SideStores}
 use Rattle.answers.specs.Stores.{sideStores}
-use Rattle.plan_gather.specs.Ready.{planOf}
+use Rattle.plan_gather.specs.Ready.{lentBy, planOf}
 use Rattle.plan_gather.specs.Contains.{used}
 use Rattle.plan_gather.specs.Gathering.{without, GrownIn}
 use Rattle.plan_gather.specs.Steps.{SideAt, keptSteps}
@@ -75,7 +75,7 @@ module _ {lies : Lies} {p : Lent} {side : Side} {n k row : ℕ} {growing : List 
 
   -- the list has grown at the front of its store
   module _ {count : ℕ} (told : lies ≡ Grown count) where
-    pub grown : GrownIn n count growing (keptSteps p side k)
+    pub grown : GrownIn (p .height) count growing (keptSteps p side k)
     grown = whole-grown (h .whole) told
 
     pub grown-new : NewList p side n k (take (count - 0) growing) i end
@@ -104,20 +104,20 @@ module _ {lies : Lies} {p : Lent} {n k row : ℕ} {growing : List ℕ} {i : Side
 -- ---- what a row brings to U: its columns
 
 module _ (n : ℕ) (starts columns : List ℕ) {lies : Lies} {k row : ℕ} {growing : List ℕ} {i : SideStores} {end : ℕ}
-    (h : Layable lies (lent n starts columns) upper n k row growing (length (i .subs)) i end) where
+    (h : Layable lies (lentBy n starts columns) upper n k row growing (length (i .subs)) i end) where
   -- what follows the members that stand at the store's end
   pub columns-behind :
       {shared from : ℕ} → lies ≡ Behind shared from
-      → ColumnsRead starts columns row (getD starts (row - 1) 0 + from) (drop from (brings (patternOf (lent n starts columns)) upper row))
+      → ColumnsRead starts columns row (getD starts (row - 1) 0 + from) (drop from (brings (patternOf (lentBy n starts columns)) upper row))
   columns-behind {from = from} told =
       let b = behind h told in columns-from n starts columns k row from _ (h .step) (b .rows) (b .inside) refl
 
   -- the whole row
-  pub columns-all : lies ≡ Row → ColumnsRead starts columns row (getD starts (row - 1) 0) (brings (patternOf (lent n starts columns)) upper row)
+  pub columns-all : lies ≡ Row → ColumnsRead starts columns row (getD starts (row - 1) 0) (brings (patternOf (lentBy n starts columns)) upper row)
   columns-all told = row-columns n starts columns (h .step) (alone h told)
 
   -- it is the list, or begins with k
   pub columns-new :
       lies ≡ Row → {new : List ℕ} → new ≡ without k (take (getD starts row 0 - getD starts (row - 1) 0) (drop (getD starts (row - 1) 0) columns))
-      → NewList (lent n starts columns) upper n k new i end
+      → NewList (lentBy n starts columns) upper n k new i end
   columns-new told is = row-new h told (is ∙ ap (without k) (columns-all told .is))

@@ -23,6 +23,6 @@ PlacedAs Short p side n k room i = room < used (planOf p) side k
 -- The kept list of step k is whole, and the stores of its side are filled with the steps before it: it can be laid there.
 pub record Layable (lies : Lies) (p : Lent) (side : Side) (n k row : ℕ) (growing : List ℕ) (room : ℕ) (i : SideStores) (end : ℕ) : Type 0 where
   pub step : StepOf p n k
-  pub whole : WholeAt lies p side n k row growing
+  pub whole : WholeAt lies p side k row growing
   pub filled : Filled (planOf p) side n (k - 1) room i
   pub end-is : end ≡ used (planOf p) side (k - 1)

@@ -1,10 +1,10 @@
 // The lists of step k are laid into the stores of their sides: shared subscripts (report, section 3.1) and the starts of their value slots. What stands there already is not written.
 ghost use Prim.Native.Nat.{_-_};
 ghost use lib.ListN.{length};
-ghost use Rattle.foundation.specs.Pattern.{Lent, lent};
+ghost use Rattle.foundation.specs.Pattern.{Lent};
 ghost use Rattle.foundation.specs.Plan.{Side, lower, upper};
 ghost use Rattle.answers.specs.Stores.{sideStores};
-ghost use Rattle.plan_gather.specs.Ready.{planOf};
+ghost use Rattle.plan_gather.specs.Ready.{lentBy, planOf};
 ghost use Rattle.plan_share.specs.Adding.{NewList};
 ghost use Rattle.plan_lay.specs.Placing.{Layable, PlacedAs};
 ghost use Rattle.plan_lay.specs.Filled.{Filled};
@@ -84,8 +84,8 @@ pub fn lay_upper(
     slots: &mut [usize],
     end: SubscriptPlace,
 ) -> Placed
-    requires { ⌜ Layable lies (lent n (now starts) (now columns)) upper n k row (now growing) (length (now subs)) (sideStores (now subs) (now «list_starts») (now slots)) (end .0) ⌝ }
-    ensures { λ r. ⌜ PlacedAs r (lent n (now (starts .entry)) (now (columns .entry))) upper n k (length (now (subs .entry)))
+    requires { ⌜ Layable lies (lentBy n (now starts) (now columns)) upper n k row (now growing) (length (now subs)) (sideStores (now subs) (now «list_starts») (now slots)) (end .0) ⌝ }
+    ensures { λ r. ⌜ PlacedAs r (lentBy n (now (starts .entry)) (now (columns .entry))) upper n k (length (now (subs .entry)))
         (sideStores (now (subs .exit)) (now («list_starts» .exit)) (now (slots .exit))) ⌝ }
 {
     match lies {

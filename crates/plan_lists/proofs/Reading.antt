@@ -11,7 +11,7 @@ use Rattle.lists.proofs.Places.{slice-part}
 use Rattle.foundation.specs.Pattern.{Lent, lent, patternOf, rowOf}
 use Rattle.foundation.specs.Plan.{Side, lower, upper, brings}
 use Rattle.foundation.specs.PlanCall.{SideStores}
-use Rattle.plan_gather.specs.Ready.{planOf}
+use Rattle.plan_gather.specs.Ready.{lentBy, planOf}
 use Rattle.plan_gather.specs.Gathering.{without}
 use Rattle.plan_gather.specs.Steps.{StepOf, SideAt, keptSteps}
 use Rattle.plan_gather.proofs.Chaining.{starts-size, row-rises, row-ends, row-is, row-size}
@@ -48,12 +48,12 @@ pub record ColumnsRead (starts columns : List ℕ) (row first : ℕ) (xs : List 
   pub is : take (getD starts row 0 - first) (drop first columns) ≡ xs
 
 pub columns-from :
-    (n : ℕ) (starts columns : List ℕ) (k row from first : ℕ) → StepOf (lent n starts columns) n k → planOf (lent n starts columns) .firstMet k ≡ row ∷ []
-    → from ≤ length (brings (patternOf (lent n starts columns)) upper row) → first ≡ getD starts (row - 1) 0 + from
-    → ColumnsRead starts columns row first (drop from (brings (patternOf (lent n starts columns)) upper row))
-unfolding lent brings patternOf
+    (n : ℕ) (starts columns : List ℕ) (k row from first : ℕ) → StepOf (lentBy n starts columns) n k → planOf (lentBy n starts columns) .firstMet k ≡ row ∷ []
+    → from ≤ length (brings (patternOf (lentBy n starts columns)) upper row) → first ≡ getD starts (row - 1) 0 + from
+    → ColumnsRead starts columns row first (drop from (brings (patternOf (lentBy n starts columns)) upper row))
+unfolding lentBy lent brings patternOf
 columns-from n starts columns k row from first of rows few first-is =
-    let p : Lent = lent n starts columns in
+    let p : Lent = lentBy n starts columns in
     let (low, high) = met-row p (of .ready) k (of .low) (of .high) row (rw rows (member-head row [])) in
     let rising : getD starts (row - 1) 0 ≤ getD starts row 0 = row-rises p (of .ready) row low high in
     let size : span starts row ≡ length (rowOf p row) = row-size p (of .ready) row low high in
@@ -66,8 +66,8 @@ columns-from n starts columns k row from first of rows few first-is =
       is = slice-part first (getD starts row 0) columns behind ∙ rw (first-is, row-is p (of .ready) row low high, drop-drop);
     }
 
-module _ (n : ℕ) (starts columns : List ℕ) {k row : ℕ} (of : StepOf (lent n starts columns) n k) {xs : List ℕ}
-    (alone : BroughtAlone (lent n starts columns) upper k row xs) where
+module _ (n : ℕ) (starts columns : List ℕ) {k row : ℕ} (of : StepOf (lentBy n starts columns) n k) {xs : List ℕ}
+    (alone : BroughtAlone (lentBy n starts columns) upper k row xs) where
   -- the whole row
-  pub columns-all : ColumnsRead starts columns row (getD starts (row - 1) 0) (brings (patternOf (lent n starts columns)) upper row)
+  pub columns-all : ColumnsRead starts columns row (getD starts (row - 1) 0) (brings (patternOf (lentBy n starts columns)) upper row)
   columns-all = columns-from n starts columns k row 0 _ of (alone .rows) (omega arith) (let z : getD starts (row - 1) 0 ≡ getD starts (row - 1) 0 + 0 = omega arith in z)

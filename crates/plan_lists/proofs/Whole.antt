@@ -16,14 +16,14 @@ use Rattle.plan_lists.specs.declared.lying.Lists.{Lists}
 use Rattle.plan_lists.specs.Lying.{BroughtAlone, OfSole, AddedBehind, WholeAt, ListsWhole}
 
 -- each of two whole lists is whole
-module _ {lists : Lists} {p : Lent} {n k row : ℕ} {lowers uppers : List ℕ} (whole : ListsWhole lists p n k row lowers uppers) where
-  pub lower-whole : WholeAt (lists .lower) p lower n k row lowers
+module _ {lists : Lists} {p : Lent} {k row : ℕ} {lowers uppers : List ℕ} (whole : ListsWhole lists p k row lowers uppers) where
+  pub lower-whole : WholeAt (lists .lower) p lower k row lowers
   lower-whole = record { lies-there = whole .at .lower-lies; alone = whole .lower-alone }
 
-  pub upper-whole : WholeAt (lists .upper) p upper n k row uppers
+  pub upper-whole : WholeAt (lists .upper) p upper k row uppers
   upper-whole = record { lies-there = whole .at .upper-lies; alone = whole .upper-alone }
 
-module _ {lies : Lies} {p : Lent} {side : Side} {n k row : ℕ} {growing : List ℕ} (whole : WholeAt lies p side n k row growing) where
+module _ {lies : Lies} {p : Lent} {side : Side} {k row : ℕ} {growing : List ℕ} (whole : WholeAt lies p side k row growing) where
   -- in its side's store, as that of a sole step
   pub whole-sole : {l : ℕ} → lies ≡ Sole l → OfSole p side k l (keptSteps p side k)
   whole-sole e = rw e at (whole .lies-there)
@@ -37,7 +37,7 @@ module _ {lies : Lies} {p : Lent} {side : Side} {n k row : ℕ} {growing : List 
   whole-row e = rw e at (whole .lies-there)
 
   -- in its growing store
-  pub whole-grown : {count : ℕ} → lies ≡ Grown count → GrownIn n count growing (keptSteps p side k)
+  pub whole-grown : {count : ℕ} → lies ≡ Grown count → GrownIn (p .height) count growing (keptSteps p side k)
   whole-grown e = rw e at (whole .lies-there)
 
   pub grown-not-sole : {count : ℕ} → lies ≡ Grown count → soleStep (planOf p) k ≡ 0

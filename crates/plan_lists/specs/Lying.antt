@@ -34,18 +34,18 @@ pub record AddedBehind (p : Lent) (side : Side) (k row shared from : ℕ) (xs : 
   pub is : xs ≡ kept (planOf p) side k
 
 -- xs lies where it is said
-abbrev pub LiesAs : Lies → Lent → Side → (n k row : ℕ) → (growing xs : List ℕ) → Type 0
-LiesAs (Grown count) p side n k row growing xs = GrownIn n count growing xs
-LiesAs Row p side n k row growing xs = BroughtAlone p side k row xs
-LiesAs (Sole l) p side n k row growing xs = OfSole p side k l xs
-LiesAs (Behind shared from) p side n k row growing xs = AddedBehind p side k row shared from xs
+abbrev pub LiesAs : Lies → Lent → Side → (k row : ℕ) → (growing xs : List ℕ) → Type 0
+LiesAs (Grown count) p side k row growing xs = GrownIn (p .height) count growing xs
+LiesAs Row p side k row growing xs = BroughtAlone p side k row xs
+LiesAs (Sole l) p side k row growing xs = OfSole p side k l xs
+LiesAs (Behind shared from) p side k row growing xs = AddedBehind p side k row shared from xs
 
 -- Both lists of step k without k itself, as they are where planning stands as t says, lie where it is said; the columns up to `read` are read (`countedReads`).
-pub record ListsAt (lists : Lists) (p : Lent) (n k row : ℕ) (t : InStep) (read : ℕ) (lowers uppers : List ℕ) : Type 0 where
-  pub lower-size : length lowers ≡ n
-  pub upper-size : length uppers ≡ n
-  pub lower-lies : LiesAs (lists .lower) p lower n k row lowers (omit k (soFar t lower))
-  pub upper-lies : LiesAs (lists .upper) p upper n k row uppers (omit k (soFar t upper))
+pub record ListsAt (lists : Lists) (p : Lent) (k row : ℕ) (t : InStep) (read : ℕ) (lowers uppers : List ℕ) : Type 0 where
+  pub lower-size : length lowers ≡ p .height
+  pub upper-size : length uppers ≡ p .height
+  pub lower-lies : LiesAs (lists .lower) p lower k row lowers (omit k (soFar t lower))
+  pub upper-lies : LiesAs (lists .upper) p upper k row uppers (omit k (soFar t upper))
   pub counted : lists .reads ≡ countedReads p (t .known) read
 
 -- a list that has grown is not that of a sole step, which is shared
@@ -56,12 +56,12 @@ GrownAlone (Sole l) p k = Unit
 GrownAlone (Behind shared from) p k = Unit
 
 -- The kept list of step k is whole, and lies where it is said.
-pub record WholeAt (lies : Lies) (p : Lent) (side : Side) (n k row : ℕ) (growing : List ℕ) : Type 0 where
-  pub lies-there : LiesAs lies p side n k row growing (keptSteps p side k)
+pub record WholeAt (lies : Lies) (p : Lent) (side : Side) (k row : ℕ) (growing : List ℕ) : Type 0 where
+  pub lies-there : LiesAs lies p side k row growing (keptSteps p side k)
   pub alone : GrownAlone lies p k
 
 -- Both lists of step k are whole, after the report's 2.4 or where it was passed over.
-pub record ListsWhole (lists : Lists) (p : Lent) (n k row : ℕ) (lowers uppers : List ℕ) : Type 0 where
-  pub at : ListsAt lists p n k row (afterSteps (patternOf p) k) k lowers uppers
+pub record ListsWhole (lists : Lists) (p : Lent) (k row : ℕ) (lowers uppers : List ℕ) : Type 0 where
+  pub at : ListsAt lists p k row (afterSteps (patternOf p) k) k lowers uppers
   pub lower-alone : GrownAlone (lists .lower) p k
   pub upper-alone : GrownAlone (lists .upper) p k

@@ -27,9 +27,9 @@ pub struct Lists {
 
 // Report, 2.1: "Local initialization: Set L_k = ∅ and U_k = ∅."
 pub fn begin_lists(reads: usize) -> Lists
-    ensures { λ r. ⌜ ((p : Lent) (n k row : ℕ) (lowers uppers : List ℕ) → length lowers ≡ n → length uppers ≡ n
+    ensures { λ r. ⌜ ((p : Lent) (k row : ℕ) (lowers uppers : List ℕ) → length lowers ≡ p .height → length uppers ≡ p .height
         → reads ≡ countedReads p (after (patternOf p) (k - 1)) (k - 1)
-        → ListsAt r p n k row (afterInitialization (patternOf p) k) (k - 1) lowers uppers) ⌝ }
+        → ListsAt r p k row (afterInitialization (patternOf p) k) (k - 1) lowers uppers) ⌝ }
 {
     Lists {
         lower: Lies::Grown(0),

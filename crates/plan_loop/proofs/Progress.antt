@@ -58,14 +58,14 @@ pub record Underway (p : Lent) (n k roomL roomU : ℕ) (chained : ChainStores) (
   pub chains : ChainsAt p n (k - 1) chained
   pub both : BothFilled p n (k - 1) roomL roomU stores
   pub ends : EndsAre p (k - 1) l u reads
-  pub list-size : length list ≡ n
-  pub spare-size : length spare ≡ n
+  pub list-size : length list ≡ p .height
+  pub spare-size : length spare ≡ p .height
 
 -- no step is done
 pub steps-start :
     {p : Lent} {n roomL roomU reads : ℕ} {chained : ChainStores} {stores : PlanStores} {list spare : List ℕ} → p .n ≡ n
     → reads ≡ length (p .columns) → Ready p × ChainsAt p n 0 chained
-    → BothFilled p n 0 roomL roomU stores → (length list ≡ n) × (length spare ≡ n)
+    → BothFilled p n 0 roomL roomU stores → (length list ≡ p .height) × (length spare ≡ p .height)
     → Underway p n 1 roomL roomU chained stores list spare 0 0 reads
 steps-start same read (ready, chains) both sizes = record {
   ready = ready;
@@ -93,7 +93,7 @@ module _ {p : Lent} {n k roomL roomU : ℕ} {chained : ChainStores} {stores : Pl
       k ≤ n
       → (StepOf p n k × ChainsAt p n (k - 1) chained)
       × (BothFilled p n (k - 1) (length (stores .lowerSide .subs)) (length (stores .upperSide .subs)) stores
-      × (EndsAre p (k - 1) l u reads × ((length list ≡ n) × (length spare ≡ n))))
+      × (EndsAre p (k - 1) l u reads × ((length list ≡ p .height) × (length spare ≡ p .height))))
   step-asks high = (
     (record { ready = under .ready; same-n = under .same-n; low = under .low; high = high }, under .chains),
     (rw (room-lower, room-upper) (under .both), (under .ends, (under .list-size, under .spare-size))),

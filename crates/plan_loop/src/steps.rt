@@ -1,9 +1,8 @@
 // The steps of planning one after the other, until all are done or a subscript does not fit.
 ghost use mathlib.Core.Path.{_≡_};
 ghost use lib.ListN.{length};
-ghost use Rattle.foundation.specs.Pattern.{lent};
 ghost use Rattle.answers.specs.Stores.{planStores};
-ghost use Rattle.plan_gather.specs.Ready.{Ready};
+ghost use Rattle.plan_gather.specs.Ready.{lentBy, Ready};
 ghost use Rattle.plan_gather.specs.Steps.{ChainsAt, chainStores};
 ghost use Rattle.plan_lay.specs.Filled.{BothFilled};
 ghost use Rattle.plan_loop.specs.Progress.{EndedAs};
@@ -36,12 +35,12 @@ pub fn plan_steps(
     list: &mut [usize],
     spare: &mut [usize],
 ) -> Ended
-    requires { ⌜ Ready (lent n (now starts) (now columns))
-        × ChainsAt (lent n (now starts) (now columns)) n 0 (chainStores (now «row_heads») (now «row_links») (now «set_heads») (now «set_links»)) ⌝ }
-    requires { ⌜ BothFilled (lent n (now starts) (now columns)) n 0 (length (now «l_subs»)) (length (now «u_subs»))
+    requires { ⌜ Ready (lentBy n (now starts) (now columns))
+        × ChainsAt (lentBy n (now starts) (now columns)) n 0 (chainStores (now «row_heads») (now «row_links») (now «set_heads») (now «set_links»)) ⌝ }
+    requires { ⌜ BothFilled (lentBy n (now starts) (now columns)) n 0 (length (now «l_subs»)) (length (now «u_subs»))
         (planStores (now «l_subs») (now «l_starts») (now «l_slots») (now «u_subs») (now «u_starts») (now «u_slots»)) ⌝ }
-    requires { ⌜ (length (now list) ≡ n) × (length (now spare) ≡ n) ⌝ }
-    ensures { λ r. ⌜ EndedAs r (lent n (now (starts .entry)) (now (columns .entry))) n (length (now («l_subs» .entry))) (length (now («u_subs» .entry)))
+    requires { ⌜ (length (now list) ≡ lentBy n (now starts) (now columns) .height) × (length (now spare) ≡ lentBy n (now starts) (now columns) .height) ⌝ }
+    ensures { λ r. ⌜ EndedAs r (lentBy n (now (starts .entry)) (now (columns .entry))) n (length (now («l_subs» .entry))) (length (now («u_subs» .entry)))
         (planStores (now («l_subs» .exit)) (now («l_starts» .exit)) (now («l_slots» .exit))
         (now («u_subs» .exit)) (now («u_starts» .exit)) (now («u_slots» .exit))) ⌝ }
 {

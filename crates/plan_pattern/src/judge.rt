@@ -1,7 +1,9 @@
-// The judgement of a lent pattern and of the stores' lengths: refusals 1 to 6 in the table's order.
-ghost use mathlib.Core.Bool.{true};
+// The judgement of a lent pattern and of the stores' lengths: refusals 1 to 6 in the table's order, 25 behind 1.
+ghost use mathlib.Core.Bool.{true, _||_};
+ghost use mathlib.Core.Logic.{_⊎_};
 ghost use mathlib.Core.Path.{_≡_};
-ghost use Prim.Native.Nat.{_≤_};
+ghost use Prim.Native.Nat.{ℕ, _≤_};
+ghost use lib.Dec.{ltb};
 ghost use Rattle.lists.specs.Sets.{member};
 ghost use Rattle.foundation.specs.Pattern.{lent, startsFit, notFalling, entriesFault, rowsFault, patternFault};
 ghost use Rattle.foundation.specs.Answer.{refused};
@@ -14,6 +16,9 @@ use answers::Refusal;
 const LARGEST_N: usize = 1_024;
 
 const MOST_ENTRIES: usize = 16_384;
+
+// Document 02, ticket 9: "a row count of n to 2,048".
+const MOST_ROWS: usize = 2_048;
 
 // Whether each start is at least the one before it.
 fn not_falling(starts: &[usize]) -> bool
@@ -32,20 +37,20 @@ fn not_falling(starts: &[usize]) -> bool
     true
 }
 
-// Refusal 2: n+1 starts, first 0, not falling, last equal to the number of entries.
-fn starts_fit(n: usize, starts: &[usize], columns: &[usize]) -> bool
-    ensures { λ r. ⌜ r ≡ startsFit (lent n (now (starts .entry)) (now (columns .entry))) ⌝ }
+// Refusal 2: one start more than there are rows, first 0, not falling, last equal to the number of entries.
+fn starts_fit(height: usize, starts: &[usize], columns: &[usize]) -> bool
+    ensures { λ r. ⌜ ((n : ℕ) → r ≡ startsFit (lent n height (now (starts .entry)) (now (columns .entry)))) ⌝ }
 {
-    if starts.len() <= n {
+    if starts.len() <= height {
         return false;
     }
-    if starts.len() != n + 1 {
+    if starts.len() != height + 1 {
         return false;
     }
     if starts[0] != 0 {
         return false;
     }
-    if starts[n] != columns.len() {
+    if starts[height] != columns.len() {
         return false;
     }
     not_falling(starts)
@@ -88,13 +93,23 @@ fn has_member(list: &[usize], x: usize) -> bool
     false
 }
 
+// Refusal 5: whether row i has its diagonal, or needs none.
+fn has_diagonal(n: usize, i: usize, row: &[usize]) -> bool
+    ensures { λ r. ⌜ r ≡ (ltb n i || member i (now (row .entry))) ⌝ }
+{
+    if n < i {
+        return true;
+    }
+    has_member(row, i)
+}
+
 // Refusals 3, 4 and 5 of all rows, row by row: the first fault, 0 where there is none.
-fn rows_fault(n: usize, starts: &[usize], columns: &[usize]) -> usize
-    requires { ⌜ startsFit (lent n (now starts) (now columns)) ≡ true ⌝ }
-    ensures { λ r. ⌜ r ≡ rowsFault (lent n (now (starts .entry)) (now (columns .entry))) 1 n ⌝ }
+fn rows_fault(n: usize, height: usize, starts: &[usize], columns: &[usize]) -> usize
+    requires { ⌜ startsFit (lent n height (now starts) (now columns)) ≡ true ⌝ }
+    ensures { λ r. ⌜ r ≡ rowsFault (lent n height (now (starts .entry)) (now (columns .entry))) 1 height ⌝ }
 {
     let mut i = 0;
-    while i < n {
+    while i < height {
         let from = starts[i];
         let to = starts[i + 1];
         let row = &columns[from..to];
@@ -102,7 +117,7 @@ fn rows_fault(n: usize, starts: &[usize], columns: &[usize]) -> usize
         if fault != 0 {
             return fault;
         }
-        if !has_member(row, i + 1) {
+        if !has_diagonal(n, i + 1, row) {
             return 5;
         }
         i += 1;
@@ -110,9 +125,15 @@ fn rows_fault(n: usize, starts: &[usize], columns: &[usize]) -> usize
     0
 }
 
-// The first of refusals 1 to 5 that is given, 0 where the pattern passes. `most` is the largest n.
-pub fn pattern_fault(most: usize, n: usize, starts: &[usize], columns: &[usize]) -> usize
-    ensures { λ r. ⌜ r ≡ patternFault most (lent n (now (starts .entry)) (now (columns .entry))) ⌝ }
+// The first of refusals 1, 25 and 2 to 5 that is given, 0 where the pattern passes. `most` is the largest n.
+pub fn pattern_fault(
+    most: usize,
+    n: usize,
+    height: usize,
+    starts: &[usize],
+    columns: &[usize],
+) -> usize
+    ensures { λ r. ⌜ r ≡ patternFault most (lent n height (now (starts .entry)) (now (columns .entry))) ⌝ }
 {
     if n == 0 {
         return 1;
@@ -126,15 +147,21 @@ pub fn pattern_fault(most: usize, n: usize, starts: &[usize], columns: &[usize])
     if MOST_ENTRIES < columns.len() {
         return 1;
     }
-    if !starts_fit(n, starts, columns) {
+    if height < n {
+        return 25;
+    }
+    if MOST_ROWS < height {
+        return 25;
+    }
+    if !starts_fit(height, starts, columns) {
         return 2;
     }
-    rows_fault(n, starts, columns)
+    rows_fault(n, height, starts, columns)
 }
 
 // A refusal of the pattern by its number.
 pub fn refusal_of(fault: usize) -> Refusal
-    requires { ⌜ (1 ≤ fault) × (fault ≤ 5) ⌝ }
+    requires { ⌜ ((1 ≤ fault) × (fault ≤ 5)) ⊎ (fault ≡ 25) ⌝ }
     ensures { λ r. ⌜ refusalOf {A = Counts} r ≡ refused fault 0 ⌝ }
 {
     match fault {
@@ -142,13 +169,15 @@ pub fn refusal_of(fault: usize) -> Refusal
         2 => Refusal::Starts,
         3 => Refusal::Column,
         4 => Refusal::Order,
-        _ => Refusal::Diagonal,
+        5 => Refusal::Diagonal,
+        _ => Refusal::Height,
     }
 }
 
 // Refusal 6: whether the starts and the work stores have the lengths that docs/ fixes.
 pub fn lengths_fit(
     n: usize,
+    height: usize,
     l_starts: usize,
     l_slots: usize,
     u_starts: usize,
@@ -160,10 +189,11 @@ pub fn lengths_fit(
     list: usize,
     spare: usize,
 ) -> bool
-    requires { ⌜ n ≤ 65536 ⌝ }
-    ensures { λ r. ⌜ r ≡ lengthsFit n «l_starts» «l_slots» «u_starts» «u_slots» «row_heads» «row_links» «set_heads» «set_links» list spare ⌝ }
+    requires { ⌜ (n ≤ 65536) × (height ≤ 65536) ⌝ }
+    ensures { λ r. ⌜ r ≡ lengthsFit n height «l_starts» «l_slots» «u_starts» «u_slots» «row_heads» «row_links» «set_heads» «set_links» list spare ⌝ }
 {
     let next = n + 1;
+    let below = height + 1;
     if l_starts != n {
         return false;
     }
@@ -176,20 +206,20 @@ pub fn lengths_fit(
     if u_slots != next {
         return false;
     }
-    if row_heads != next {
+    if row_heads != below {
         return false;
     }
-    if row_links != next {
+    if row_links != below {
         return false;
     }
-    if set_heads != next {
+    if set_heads != below {
         return false;
     }
-    if set_links != next {
+    if set_links != below {
         return false;
     }
-    if list != n {
+    if list != height {
         return false;
     }
-    spare == n
+    spare == height
 }

@@ -28,16 +28,16 @@ use Rattle.plan_lists.specs.declared.lying.Lists.{Lists}
 use Rattle.plan_lists.specs.Lying.{ListsAt}
 
 -- the number of steps by another name
-chained-to : {m n : ℕ} {heads links : List ℕ} {lists : ℕ → List ℕ} → m ≡ n → Chained heads links m lists → Chained heads links n lists
+chained-to : {last m n : ℕ} {heads links : List ℕ} {lists : ℕ → List ℕ} → m ≡ n → Chained heads links last m lists → Chained heads links last n lists
 chained-to e h = rw e at h
 
 module _ {p : Lent} {n k : ℕ} (step : StepOf p n k) where
   -- ---- the chain of the rows
 
-  module _ {heads links : List ℕ} (chains : Chained heads links n (unmetAt p (after (patternOf p) (k - 1)))) where
+  module _ {heads links : List ℕ} (chains : Chained heads links (p .height) n (unmetAt p (after (patternOf p) (k - 1)))) where
     -- it lies in the heads
     pub head-inside : k < length heads
-    head-inside = let h = step .high in let s = chains .heads-size in omega arith
+    head-inside = let h = step .high in let s = chains .heads-size in let w = chains .within in omega arith
 
     -- it leads through the rows first met at k
     pub rows-linked : {row : ℕ} → row ≡ getD heads k 0 → Linked links row (planOf p .firstMet k)
@@ -47,10 +47,10 @@ module _ {p : Lent} {n k : ℕ} (step : StepOf p n k) where
         rw (e, ← unmet-rows p (step .ready) (k - 1) k (omega arith) h) (chains .chain-at k low (step .high))
 
     -- once it is emptied, its rows are met
-    pub rows-left : Chained (set heads k 0) links n (unmetAt p (afterRows (patternOf p) k .known))
+    pub rows-left : Chained (set heads k 0) links (p .height) n (unmetAt p (afterRows (patternOf p) k .known))
     unfolding unmetAt
     rows-left =
-        chained-cong (set heads k 0) links n (unmetAt p (after (patternOf p) k)) (unmetAt p (afterRows (patternOf p) k .known))
+        chained-cong (set heads k 0) links (p .height) n (unmetAt p (after (patternOf p) k)) (unmetAt p (afterRows (patternOf p) k .known))
         (λ j l u. keep-cong (λ i. not (after (patternOf p) k .met i)) (λ i. not (afterRows (patternOf p) k .known .met i)) (rowsAt p j)
         (λ i m. ap (λ (met : ℕ → Bool). not (met i)) (sym (rows-met (patternOf p) k (step .low)))))
         (chained-to (step .same-n) (rows-marked p (step .ready) heads links k (step .low) (step-high step) (chained-to (sym (step .same-n)) chains)))
@@ -103,14 +103,14 @@ module _ {p : Lent} {n k : ℕ} (step : StepOf p n k) where
       sym (rw rows at (from-rows-is p (step .ready) k (step .low) (step-high step) side)) ∙ union-nil-left (without k (brings (patternOf p) side row))
 
   -- what was read before
-  pub begun : {lists : Lists} {row : ℕ} {lowers uppers : List ℕ} → ListsAt lists p n k row (afterInitialization (patternOf p) k) (k - 1) lowers uppers
+  pub begun : {lists : Lists} {row : ℕ} {lowers uppers : List ℕ} → ListsAt lists p k row (afterInitialization (patternOf p) k) (k - 1) lowers uppers
       → lists .reads ≡ countedReads p (after (patternOf p) (k - 1)) (k - 1)
   unfolding afterInitialization initialized
   begun empty = empty .counted
 
-  module _ {lists : Lists} {row : ℕ} {lowers uppers : List ℕ} (empty : ListsAt lists p n k row (afterInitialization (patternOf p) k) (k - 1) lowers uppers) where
+  module _ {lists : Lists} {row : ℕ} {lowers uppers : List ℕ} (empty : ListsAt lists p k row (afterInitialization (patternOf p) k) (k - 1) lowers uppers) where
     -- where there is no row, nothing changes
-    pub no-rows : (links : List ℕ) → Linked links row (planOf p .firstMet k) → row ≡ 0 → ListsAt lists p n k row (afterRows (patternOf p) k) k lowers uppers
+    pub no-rows : (links : List ℕ) → Linked links row (planOf p .firstMet k) → row ≡ 0 → ListsAt lists p k row (afterRows (patternOf p) k) k lowers uppers
     unfolding afterInitialization initialized soFar omit keep
     no-rows links linked e = record {
       lower-size = empty .lower-size;
@@ -122,7 +122,7 @@ module _ {p : Lent} {n k : ℕ} (step : StepOf p n k) where
 
     -- what one row brings lies in the pattern
     pub row-alone : {reads : ℕ} → planOf p .firstMet k ≡ row ∷ [] → reads ≡ countedReads p (afterRows (patternOf p) k .known) k
-        → ListsAt (record { lower = Row; upper = Row; reads = reads }) p n k row (afterRows (patternOf p) k) k lowers uppers
+        → ListsAt (record { lower = Row; upper = Row; reads = reads }) p k row (afterRows (patternOf p) k) k lowers uppers
     row-alone rows read = record {
       lower-size = empty .lower-size;
       upper-size = empty .upper-size;
@@ -132,7 +132,7 @@ module _ {p : Lent} {n k : ℕ} (step : StepOf p n k) where
     }
 
 -- what several rows bring has grown
-pub rows-grown : {p : Lent} {n k row l u reads : ℕ} {lowers uppers : List ℕ} → GrownIn n l lowers (keptRows p lower k) → GrownIn n u uppers (keptRows p upper k)
+pub rows-grown : {p : Lent} {k row l u reads : ℕ} {lowers uppers : List ℕ} → GrownIn (p .height) l lowers (keptRows p lower k) → GrownIn (p .height) u uppers (keptRows p upper k)
     → reads ≡ countedReads p (afterRows (patternOf p) k .known) k
-    → ListsAt (record { lower = Grown l; upper = Grown u; reads = reads }) p n k row (afterRows (patternOf p) k) k lowers uppers
+    → ListsAt (record { lower = Grown l; upper = Grown u; reads = reads }) p k row (afterRows (patternOf p) k) k lowers uppers
 rows-grown a b read = record { lower-size = a .store-size; upper-size = b .store-size; lower-lies = a; upper-lies = b; counted = read }

@@ -2,9 +2,10 @@
 ghost use mathlib.Core.Path.{_≡_};
 ghost use Prim.Native.Nat.{_-_};
 ghost use lib.ListN.{getD};
-ghost use Rattle.foundation.specs.Pattern.{lent, patternOf};
+ghost use Rattle.foundation.specs.Pattern.{patternOf};
 ghost use Rattle.foundation.specs.Plan.{after, afterInitialization, afterRows};
 ghost use Rattle.store_lists.specs.Chains.{Chained};
+ghost use Rattle.plan_gather.specs.Ready.{lentBy};
 ghost use Rattle.plan_gather.specs.Steps.{StepOf, unmetAt};
 ghost use Rattle.plan_lists.specs.Lying.{ListsAt};
 use plan_grow::from_rows;
@@ -26,14 +27,14 @@ pub fn obtain_rows(
     l_growing: &mut [usize],
     u_growing: &mut [usize],
 ) -> Lists
-    requires { ⌜ StepOf (lent n (now starts) (now columns)) n k × (row ≡ getD (now «row_heads») k 0) ⌝ }
-    requires { ⌜ Chained (now «row_heads») (now «row_links») n (unmetAt (lent n (now starts) (now columns)) (after (patternOf (lent n (now starts) (now columns))) (k - 1))) ⌝ }
-    requires { ⌜ ListsAt empty (lent n (now starts) (now columns)) n k row (afterInitialization (patternOf (lent n (now starts) (now columns))) k) (k - 1)
+    requires { ⌜ StepOf (lentBy n (now starts) (now columns)) n k × (row ≡ getD (now «row_heads») k 0) ⌝ }
+    requires { ⌜ Chained (now «row_heads») (now «row_links») (lentBy n (now starts) (now columns) .height) n (unmetAt (lentBy n (now starts) (now columns)) (after (patternOf (lentBy n (now starts) (now columns))) (k - 1))) ⌝ }
+    requires { ⌜ ListsAt empty (lentBy n (now starts) (now columns)) k row (afterInitialization (patternOf (lentBy n (now starts) (now columns))) k) (k - 1)
         (now «l_growing») (now «u_growing») ⌝ }
-    ensures lists { λ r. ⌜ ListsAt r (lent n (now (starts .entry)) (now (columns .entry))) n k row
-        (afterRows (patternOf (lent n (now (starts .entry)) (now (columns .entry)))) k) k (now («l_growing» .exit)) (now («u_growing» .exit)) ⌝ }
-    ensures met { λ r. ⌜ Chained (now («row_heads» .exit)) (now («row_links» .entry)) n
-        (unmetAt (lent n (now (starts .entry)) (now (columns .entry))) (afterRows (patternOf (lent n (now (starts .entry)) (now (columns .entry)))) k .known)) ⌝ }
+    ensures lists { λ r. ⌜ ListsAt r (lentBy n (now (starts .entry)) (now (columns .entry))) k row
+        (afterRows (patternOf (lentBy n (now (starts .entry)) (now (columns .entry)))) k) k (now («l_growing» .exit)) (now («u_growing» .exit)) ⌝ }
+    ensures met { λ r. ⌜ Chained (now («row_heads» .exit)) (now («row_links» .entry)) (lentBy n (now (starts .entry)) (now (columns .entry)) .height) n
+        (unmetAt (lentBy n (now (starts .entry)) (now (columns .entry))) (afterRows (patternOf (lentBy n (now (starts .entry)) (now (columns .entry)))) k .known)) ⌝ }
 {
     row_heads[k] = 0;
     if row == 0 {

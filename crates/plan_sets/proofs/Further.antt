@@ -1,5 +1,5 @@
 -- The further members of the lists of a step, wherever these lie: whether there are any, and which is the least.
-use mathlib.Core.Bool.{cond, not}
+use mathlib.Core.Bool.{true, false, cond, not}
 use mathlib.Core.List.{List, [], _∷_}
 use mathlib.Core.Path.{_≡_, refl, sym, ap, _∙_}
 use Prim.Native.Nat.{ℕ, _+_, _-_, _≤_, _<_}
@@ -55,6 +55,12 @@ unfolding first
 first-at [] = refl
 first-at (x ∷ xs) = refl
 
+-- a list without a member has no first
+pub none-first : (xs : List ℕ) → length xs ≡ 0 → 0 ≡ first xs
+unfolding first
+none-first [] e = refl
+none-first (x ∷ xs) e = absurd (omega arith)
+
 -- ---- the kept list of step k
 
 module _ {p : Lent} {side : Side} {n k : ℕ} {i : SideStores} {end : ℕ} (at : SideAt p side n k i end) where
@@ -62,16 +68,20 @@ module _ {p : Lent} {side : Side} {n k : ℕ} {i : SideStores} {end : ℕ} (at :
   kept-is = steps-kept p (at .step .ready) k (at .step .low) (step-high (at .step)) side
 
   -- grown, it has as many members as are counted
-  pub grown-further : {count : ℕ} {growing : List ℕ} → GrownIn n count growing (keptSteps p side k) → ltb 0 count ≡ ltb 0 (length (kept (planOf p) side k))
+  pub grown-further : {count : ℕ} {growing : List ℕ} → GrownIn (p .height) count growing (keptSteps p side k) → ltb 0 count ≡ ltb 0 (length (kept (planOf p) side k))
   grown-further g = ap (ltb 0) (g .size ∙ ap length kept-is)
 
   -- and begins at the front
-  pub grown-least : {count : ℕ} {growing : List ℕ} → GrownIn n count growing (keptSteps p side k) → 0 < length (kept (planOf p) side k)
+  pub grown-least : {count : ℕ} {growing : List ℕ} → GrownIn (p .height) count growing (keptSteps p side k) → 0 < length (kept (planOf p) side k)
       → Stands growing 0 (first (kept (planOf p) side k))
   grown-least {count} {growing} g some =
       let size : count ≡ length (kept (planOf p) side k) = g .size ∙ ap length kept-is in
       let found = in-part growing (kept (planOf p) side k) 0 count 0 (let a = g .fits in let b = g .store-size in omega arith) (g .is ∙ kept-is) some in
       record { inside = found .inside; is = found .is ∙ first-at (kept (planOf p) side k) }
+
+  -- where none are counted it has none
+  pub grown-none : {count : ℕ} {growing : List ℕ} → GrownIn (p .height) count growing (keptSteps p side k) → count ≡ 0 → 0 ≡ first (kept (planOf p) side k)
+  grown-none g none = none-first (kept (planOf p) side k) (sym (ap length kept-is) ∙ sym (g .size) ∙ none)
 
   -- ---- of a sole step
 
@@ -171,24 +181,39 @@ module _ {p : Lent} {n k : ℕ} {i : SideStores} {end : ℕ} (at : SideAt p lowe
 
 -- ---- of U
 
--- a list that begins with k and has more begins behind it
-behind-first : (k : ℕ) (xs : List ℕ) → 0 < length xs → getD xs 0 0 ≡ k → 0 < length (without k xs) → (1 < length xs) × (getD xs 1 0 ≡ first (without k xs))
+-- a list that begins with k has one member more than without it, and what is left begins behind k
+behind-first : (k : ℕ) (xs : List ℕ) → 0 < length xs → getD xs 0 0 ≡ k → (length xs ≡ length (without k xs) + 1) × (getD xs 1 0 ≡ first (without k xs))
 unfolding without
-behind-first k [] some e more = absurd (omega arith)
-behind-first k (x ∷ xs) some e more =
+behind-first k [] some e = absurd (omega arith)
+behind-first k (x ∷ xs) some e =
     let q : without k (x ∷ xs) ≡ xs = rw (eq-eqb x k e) refl in
     (omega (arith, ap length q), first-at xs ∙ ap first (sym q))
 
+-- the place of a part of a store, or none behind its end, as the code reads it
+or-none : (store : List ℕ) (at end x : ℕ) → (at < end → Stands store at x) → (end ≤ at → 0 ≡ x) → cond (ltb at end) (getD store at 0) 0 ≡ x
+or-none store at end x here none =
+    by-test (ltb at end) (λ t. rw t (here (ltb-true at end t) .is)) (λ t. rw t (none (ltb-false at end t)))
+
 module _ {p : Lent} {n k : ℕ} {i : SideStores} {end : ℕ} (at : SideAt p upper n k i end) {row : ℕ} (rows : planOf p .firstMet k ≡ row ∷ []) where
   -- the one row that is first met at k has it as its least column
-  met : (1 ≤ row) × (row ≤ p .n) × (leastAbove 0 (rowOf p row) ≡ k)
+  met : (1 ≤ row) × (row ≤ p .height) × (leastAbove 0 (rowOf p row) ≡ k)
   met = first-in p (at .step .ready) k row (at .step .low) (step-high (at .step)) (rw rows (member-head row []))
 
   pub row-low : 1 ≤ row
   row-low = met .0
 
-  pub row-starts : row - 1 < length (p .starts)
-  row-starts = omega (arith, met .0, met .1, starts-size p (at .step .ready))
+  pub row-starts : row < length (p .starts)
+  row-starts = omega (arith, met .1, starts-size p (at .step .ready))
+
+  -- it has columns, inside the pattern's
+  size : getD (p .starts) row 0 - getD (p .starts) (row - 1) 0 ≡ length (rowOf p row)
+  size = row-size p (at .step .ready) row (met .0) (met .1)
+
+  pub some-column : getD (p .starts) (row - 1) 0 < getD (p .starts) row 0
+  some-column = let least : 1 ≤ leastAbove 0 (rowOf p row) = omega (arith, met .2, at .step .low) in row-some p (at .step .ready) row (met .0) (met .1) least
+
+  pub columns-inside : getD (p .starts) row 0 ≤ length (p .columns)
+  columns-inside = row-ends p (at .step .ready) row (met .0) (met .1)
 
   -- its columns stand where the pattern has them
   in-row : (j : ℕ) → j < length (rowOf p row) → Stands (p .columns) (getD (p .starts) (row - 1) 0 + j) (getD (rowOf p row) j 0)
@@ -199,29 +224,41 @@ module _ {p : Lent} {n k : ℕ} {i : SideStores} {end : ℕ} (at : SideAt p uppe
       (slice-part (getD (p .starts) (row - 1) 0) (getD (p .starts) row 0) (p .columns) rises ∙ sym (row-is p (at .step .ready) row (met .0) (met .1)))
       h
 
-  -- what it brings begins behind k
-  pub row-least : BroughtAlone p upper k row (keptSteps p upper k) → 0 < length (kept (planOf p) upper k)
-      → Stands (p .columns) (getD (p .starts) (row - 1) 0 + 1) (first (kept (planOf p) upper k))
+  -- what it brings begins behind k, if it has a further column
+  pub row-least : BroughtAlone p upper k row (keptSteps p upper k)
+      → cond (ltb (getD (p .starts) (row - 1) 0 + 1) (getD (p .starts) row 0)) (getD (p .columns) (getD (p .starts) (row - 1) 0 + 1) 0) 0 ≡ first (kept (planOf p) upper k)
   unfolding brings patternOf
-  row-least brought some =
+  row-least brought =
       let is : kept (planOf p) upper k ≡ without k (rowOf p row) = sym (kept-is at) ∙ brought .is in
-      let size = row-size p (at .step .ready) row (met .0) (met .1) in
-      let has = row-some p (at .step .ready) row (met .0) (met .1) in
+      let long = size in
+      let has = some-column in
       let here = in-row 0 (omega arith) in
       let leads : getD (rowOf p row) 0 0 ≡ k =
-      sym (here .is) ∙ ap (λ (j : ℕ). getD (p .columns) j 0) (add-zero (getD (p .starts) (row - 1) 0)) ∙ row-first p (at .step .ready) row (met .0) (met .1) ∙ met .2 in
-      let (more, next) = behind-first k (rowOf p row) (omega arith) leads (rw (← is) some) in
-      let found = in-row 1 more in
-      record { inside = found .inside; is = found .is ∙ next ∙ ap first (sym is) }
+      sym (here .is) ∙ ap (λ (j : ℕ). getD (p .columns) j 0) (add-zero (getD (p .starts) (row - 1) 0)) ∙ row-first p (at .step .ready) row (met .0) (met .1) has ∙ met .2 in
+      let (one-more, next) = behind-first k (rowOf p row) (omega arith) leads in
+      or-none (p .columns) (getD (p .starts) (row - 1) 0 + 1) (getD (p .starts) row 0) (first (kept (planOf p) upper k))
+      (λ more. let found = in-row 1 (omega arith) in record { inside = found .inside; is = found .is ∙ next ∙ ap first (sym is) })
+      (λ none. none-first (kept (planOf p) upper k) (omega (arith, ap length is)))
 
   -- behind the list of step k-1, what that list shares comes first, and else what the row adds
   module _ {count from : ℕ} (behind : AddedBehind p upper k row count from (keptSteps p upper k)) where
-    pub added-least : count ≡ 0 → 0 < length (kept (planOf p) upper k) → Stands (p .columns) (getD (p .starts) (row - 1) 0 + from) (first (kept (planOf p) upper k))
+    -- which begins inside the columns, or at their end
+    pub added-inside : getD (p .starts) (row - 1) 0 + from ≤ length (p .columns)
     unfolding brings patternOf
-    added-least none some =
-        let (inside, is) = rest-least at behind none some in
+    added-inside = omega (arith, behind .inside, size, some-column, columns-inside)
+
+    pub added-least : count ≡ 0
+        → cond (ltb (getD (p .starts) (row - 1) 0 + from) (getD (p .starts) row 0)) (getD (p .columns) (getD (p .starts) (row - 1) 0 + from) 0) 0 ≡ first (kept (planOf p) upper k)
+    unfolding brings patternOf
+    added-least none =
+        let long = size in
+        let count-is = behind-count at behind in
+        or-none (p .columns) (getD (p .starts) (row - 1) 0 + from) (getD (p .starts) row 0) (first (kept (planOf p) upper k))
+        (λ more.
+        let (inside, is) = rest-least at behind none (omega arith) in
         let found = in-row from inside in
-        record { inside = found .inside; is = found .is ∙ is }
+        record { inside = found .inside; is = found .is ∙ is })
+        (λ ended. none-first (kept (planOf p) upper k) (omega arith))
 
 -- ---- as the code is told where a list lies
 
@@ -250,13 +287,16 @@ module _ {lies : Lies} {p : Lent} {n k row : ℕ} {slots : List ℕ} (w : LowerW
     pub sole-slots-rise : getD slots (l - 1) 0 ≤ getD slots l 0
     sole-slots-rise = rw (← w .slots-are) (sole-rises (w .at) told-sole)
 
-    pub sole-slots-further : ltb 1 (getD slots l 0 - getD slots (l - 1) 0) ≡ ltb 0 (length (kept (planOf p) lower k))
+    pub sole-slots-further : ltb 1 (span slots l) ≡ ltb 0 (length (kept (planOf p) lower k))
     sole-slots-further = rw (← w .slots-are) (sole-further (w .at) told-sole)
 
-module _ {lies : Lies} {p : Lent} {n k row : ℕ} {growing : List ℕ} {i : SideStores} {end : ℕ} (at : SideAt p upper n k i end) (w : WholeAt lies p upper n k row growing)
-    (some : 0 < length (kept (planOf p) upper k)) where
-  pub least-grown : {count : ℕ} → lies ≡ Grown count → Stands growing 0 (first (kept (planOf p) upper k))
-  least-grown e = grown-least at (whole-grown w e) some
+module _ {lies : Lies} {p : Lent} {n k row : ℕ} {growing : List ℕ} {i : SideStores} {end : ℕ} (at : SideAt p upper n k i end) (w : WholeAt lies p upper k row growing) where
+  module _ {count : ℕ} (e : lies ≡ Grown count) where
+    pub least-grown : (count ≡ 0 → ⊥) → Stands growing 0 (first (kept (planOf p) upper k))
+    least-grown some = let g = whole-grown w e in grown-least at g (let long = g .size ∙ ap length (kept-is at) in omega (arith, some))
+
+    pub least-none : count ≡ 0 → 0 ≡ first (kept (planOf p) upper k)
+    least-none none = grown-none at (whole-grown w e) none
 
   module _ (e : lies ≡ Row) where
     alone : BroughtAlone p upper k row (keptSteps p upper k)
@@ -265,11 +305,14 @@ module _ {lies : Lies} {p : Lent} {n k row : ℕ} {growing : List ℕ} {i : Side
     pub alone-low : 1 ≤ row
     alone-low = row-low at (alone .rows)
 
-    pub alone-starts : row - 1 < length (p .starts)
+    pub alone-starts : row < length (p .starts)
     alone-starts = row-starts at (alone .rows)
 
-    pub least-alone : Stands (p .columns) (getD (p .starts) (row - 1) 0 + 1) (first (kept (planOf p) upper k))
-    least-alone = row-least at (alone .rows) alone some
+    pub alone-inside : (getD (p .starts) (row - 1) 0 < getD (p .starts) row 0) × (getD (p .starts) row 0 ≤ length (p .columns))
+    alone-inside = (some-column at (alone .rows), columns-inside at (alone .rows))
+
+    pub least-alone : cond (ltb (getD (p .starts) (row - 1) 0 + 1) (getD (p .starts) row 0)) (getD (p .columns) (getD (p .starts) (row - 1) 0 + 1) 0) 0 ≡ first (kept (planOf p) upper k)
+    least-alone = row-least at (alone .rows) alone
 
   module _ {l : ℕ} (e : lies ≡ Sole l) where
     of-sole : OfSole p upper k l (keptSteps p upper k)
@@ -278,11 +321,21 @@ module _ {lies : Lies} {p : Lent} {n k row : ℕ} {growing : List ℕ} {i : Side
     pub upper-sole-low : 1 ≤ l
     upper-sole-low = of-sole .some
 
+    pub upper-sole-slots : (1 ≤ l) × (l < length (i .slotStarts)) × (getD (i .slotStarts) (l - 1) 0 ≤ getD (i .slotStarts) l 0)
+    upper-sole-slots =
+        let b = sole-before at of-sole in
+        let h = at .step .high in
+        let s = at .contained .slots-size in
+        (of-sole .some, omega arith, sole-rises at of-sole)
+
     pub upper-sole-starts : l - 1 < length (i .starts)
     upper-sole-starts = let b = sole-before at of-sole in let h = at .step .high in let s = at .contained .starts-size in omega arith
 
-    pub least-sole : Stands (i .subs) (getD (i .starts) (l - 1) 0 + 1) (first (kept (planOf p) upper k))
-    least-sole = sole-least at of-sole some
+    pub least-sole : ltb 1 (span (i .slotStarts) l) ≡ true → Stands (i .subs) (getD (i .starts) (l - 1) 0 + 1) (first (kept (planOf p) upper k))
+    least-sole some = sole-least at of-sole (ltb-true 0 (length (kept (planOf p) upper k)) (sym (sole-further at of-sole) ∙ some))
+
+    pub sole-none : ltb 1 (span (i .slotStarts) l) ≡ false → 0 ≡ first (kept (planOf p) upper k)
+    sole-none none = none-first (kept (planOf p) upper k) (omega (arith, sole-count at of-sole, ltb-false 1 (span (i .slotStarts) l) none))
 
   module _ {count from : ℕ} (e : lies ≡ Behind count from) where
     behind : AddedBehind p upper k row count from (keptSteps p upper k)
@@ -291,8 +344,11 @@ module _ {lies : Lies} {p : Lent} {n k row : ℕ} {growing : List ℕ} {i : Side
     pub behind-low : 1 ≤ row
     behind-low = row-low at (behind .rows)
 
-    pub behind-starts : row - 1 < length (p .starts)
+    pub behind-starts : row < length (p .starts)
     behind-starts = row-starts at (behind .rows)
+
+    pub behind-inside : (getD (p .starts) (row - 1) 0 + from ≤ length (p .columns)) × (getD (p .starts) row 0 ≤ length (p .columns))
+    behind-inside = (added-inside at (behind .rows) behind, columns-inside at (behind .rows))
 
     pub behind-end : count ≤ end
     behind-end = shared-inside at behind
@@ -300,5 +356,6 @@ module _ {lies : Lies} {p : Lent} {n k row : ℕ} {growing : List ℕ} {i : Side
     pub least-shared : 0 < count → Stands (i .subs) (end - count) (first (kept (planOf p) upper k))
     least-shared = shared-least at behind
 
-    pub least-added : count ≤ 0 → Stands (p .columns) (getD (p .starts) (row - 1) 0 + from) (first (kept (planOf p) upper k))
-    least-added none = added-least at (behind .rows) behind (omega arith) some
+    pub least-added : count ≤ 0
+        → cond (ltb (getD (p .starts) (row - 1) 0 + from) (getD (p .starts) row 0)) (getD (p .columns) (getD (p .starts) (row - 1) 0 + from) 0) 0 ≡ first (kept (planOf p) upper k)
+    least-added none = added-least at (behind .rows) behind (omega arith)

@@ -16,4 +16,4 @@ pub record LowerWhole (lies : Lies) (p : Lent) (n k row : ℕ) (slots : List ℕ
   pub growing : List ℕ
   pub slots-are : stores .slotStarts ≡ slots
   pub at : SideAt p lower n k stores end
-  pub whole : WholeAt lies p lower n k row growing
+  pub whole : WholeAt lies p lower k row growing

@@ -89,7 +89,8 @@ module _ (p : Lent) (ok : Ready p) (side : Side) where
   slots-few zero h = omega (arith, slots-none (planOf p) side)
   slots-few (suc k) h =
       let small = ok .few in
-      omega (arith, slots-few k (omega arith), slots-next (planOf p) side k, kept-length p ok side (suc k) h)
+      let tall = ok .tall in
+      omega (arith, slots-few k (omega arith), slots-next (planOf p) side k, kept-length p ok side (suc k) (omega arith))
 
   -- a side has no more subscripts than slots
   used-few : (k : ℕ) → used (planOf p) side k ≤ slotsOf (planOf p) side k
@@ -151,6 +152,7 @@ module _ {p : Lent} {side : Side} {n k : ℕ} {i : SideStores} {end : ℕ} (at :
     rest-writable =
         let s : Planning = planOf p in
         let few = at .step .ready .few in
+        let tall = at .step .ready .tall in
         let same = at .step .same-n in
         let low = at .step .low in
         let high = at .step .high in
@@ -214,6 +216,7 @@ module _ {p : Lent} {side : Side} {n k : ℕ} {i : SideStores} {end : ℕ} (at :
         let s : Planning = planOf p in
         let (before, is) = sole-facts in
         let few = at .step .ready .few in
+        let tall = at .step .ready .tall in
         let same = at .step .same-n in
         let high = at .step .high in
         let starts-size = at .contained .starts-size in
@@ -274,7 +277,7 @@ module _ {p : Lent} {side : Side} {n k : ℕ} {i : SideStores} {end : ℕ} (at :
 -- a list that has grown by the report's 2.2 and 2.4 is the new one
 pub new-grown :
     {p : Lent} {side : Side} {n k : ℕ} {i : SideStores} {end : ℕ} → SideAt p side n k i end → soleStep (planOf p) k ≡ 0 → {count : ℕ} {growing : List ℕ}
-    → GrownIn n count growing (keptSteps p side k) → NewList p side n k (take (count - 0) growing) i end
+    → GrownIn (p .height) count growing (keptSteps p side k) → NewList p side n k (take (count - 0) growing) i end
 new-grown {p} {side} {n} {k} at not-sole grown =
     let high : k ≤ p .n = rw (at .step .same-n) (at .step .high) in
     record { at = at; new-is = rw sub-zero (grown .is) ∙ steps-kept p (at .step .ready) k (at .step .low) high side; not-sole = not-sole }

@@ -25,10 +25,10 @@ module _ {p : Lent} {n k : ℕ} (step : StepOf p n k) where
   pub lists-ask :
       {roomL roomU l u reads listSize spareSize : ℕ} {chains : ChainStores} {lSubs lStarts lSlots uSubs uStarts uSlots : List ℕ} → ChainsAt p n (k - 1) chains
       → BothFilled p n (k - 1) roomL roomU (planStores lSubs lStarts lSlots uSubs uStarts uSlots)
-      → EndsAre p (k - 1) l u reads × ((listSize ≡ n) × (spareSize ≡ n))
+      → EndsAre p (k - 1) l u reads × ((listSize ≡ p .height) × (spareSize ≡ p .height))
       → (SideAt p lower n k (sideStores lSubs lStarts lSlots) l × SideAt p upper n k (sideStores uSubs uStarts uSlots) u)
       × ((ChainsAt p n (k - 1) chains × (getD (chains .rowHeads) k 0 ≡ getD (chains .rowHeads) k 0))
-      × (EndsAre p (k - 1) l u reads × ((listSize ≡ n) × (spareSize ≡ n))))
+      × (EndsAre p (k - 1) l u reads × ((listSize ≡ p .height) × (spareSize ≡ p .height))))
   lists-ask chains both (ends, sizes) = (
     (filled-at step (both .lowers) (ends .lower-end), filled-at step (both .uppers) (ends .upper-end)),
     ((chains, refl), (ends, sizes)),
@@ -36,7 +36,7 @@ module _ {p : Lent} {n k : ℕ} (step : StepOf p n k) where
 
   -- a list that is whole is laid into its side's stores
   pub side-layable :
-      {lies : Lies} {side : Side} {row room end : ℕ} {growing : List ℕ} {i : SideStores} → LiesAs lies p side n k row growing (keptSteps p side k) → GrownAlone lies p k
+      {lies : Lies} {side : Side} {row room end : ℕ} {growing : List ℕ} {i : SideStores} → LiesAs lies p side k row growing (keptSteps p side k) → GrownAlone lies p k
       → Filled (planOf p) side n (k - 1) room i → end ≡ used (planOf p) side (k - 1) → Layable lies p side n k row growing room i end
   side-layable lies alone filled end-is =
       record { step = step; whole = record { lies-there = lies; alone = alone }; filled = filled; end-is = end-is }
@@ -45,7 +45,7 @@ module _ {p : Lent} {n k : ℕ} (step : StepOf p n k) where
 
   -- all stores are filled with it, and what was counted is what was read
   pub turned-on :
-      {lists : Lists} {row l u roomL roomU : ℕ} {listL listU : List ℕ} {chains : ChainStores} {lowers uppers : SideStores} → ListsWhole lists p n k row listL listU
+      {lists : Lists} {row l u roomL roomU : ℕ} {listL listU : List ℕ} {chains : ChainStores} {lowers uppers : SideStores} → ListsWhole lists p k row listL listU
       → ChainsAt p n k chains → (l ≡ used (planOf p) lower k) × Filled (planOf p) lower n k roomL lowers
       → (u ≡ used (planOf p) upper k) × Filled (planOf p) upper n k roomU uppers
       → EndsAre p k l u (lists .reads) × ChainsAt p n k chains × BothFilled p n k roomL roomU (record { lowerSide = lowers; upperSide = uppers })

@@ -2,8 +2,8 @@
 ghost use mathlib.Core.Path.{_≡_};
 ghost use Prim.Native.Nat.{_-_};
 ghost use lib.ListN.{length};
-ghost use Rattle.foundation.specs.Pattern.{lent};
 ghost use Rattle.answers.specs.Stores.{planStores};
+ghost use Rattle.plan_gather.specs.Ready.{lentBy};
 ghost use Rattle.plan_gather.specs.Steps.{StepOf, ChainsAt, EndsAre, chainStores};
 ghost use Rattle.plan_lay.specs.Filled.{BothFilled};
 ghost use Rattle.plan_step.specs.Stepping.{TurnedAs};
@@ -42,14 +42,14 @@ pub fn plan_step(
     u_end: SubscriptPlace,
     reads: usize,
 ) -> Turned
-    requires { ⌜ StepOf (lent n (now starts) (now columns)) n k
-        × ChainsAt (lent n (now starts) (now columns)) n (k - 1) (chainStores (now «row_heads») (now «row_links») (now «set_heads») (now «set_links»)) ⌝ }
-    requires { ⌜ BothFilled (lent n (now starts) (now columns)) n (k - 1) (length (now «l_subs»)) (length (now «u_subs»))
+    requires { ⌜ StepOf (lentBy n (now starts) (now columns)) n k
+        × ChainsAt (lentBy n (now starts) (now columns)) n (k - 1) (chainStores (now «row_heads») (now «row_links») (now «set_heads») (now «set_links»)) ⌝ }
+    requires { ⌜ BothFilled (lentBy n (now starts) (now columns)) n (k - 1) (length (now «l_subs»)) (length (now «u_subs»))
         (planStores (now «l_subs») (now «l_starts») (now «l_slots»)
         (now «u_subs») (now «u_starts») (now «u_slots»)) ⌝ }
-    requires { ⌜ EndsAre (lent n (now starts) (now columns)) (k - 1) («l_end» .0) («u_end» .0) reads ⌝ }
-    requires { ⌜ (length (now list) ≡ n) × (length (now spare) ≡ n) ⌝ }
-    ensures { λ r. ⌜ TurnedAs r (lent n (now (starts .entry)) (now (columns .entry))) n k (length (now («l_subs» .entry))) (length (now («u_subs» .entry)))
+    requires { ⌜ EndsAre (lentBy n (now starts) (now columns)) (k - 1) («l_end» .0) («u_end» .0) reads ⌝ }
+    requires { ⌜ (length (now list) ≡ lentBy n (now starts) (now columns) .height) × (length (now spare) ≡ lentBy n (now starts) (now columns) .height) ⌝ }
+    ensures { λ r. ⌜ TurnedAs r (lentBy n (now (starts .entry)) (now (columns .entry))) n k (length (now («l_subs» .entry))) (length (now («u_subs» .entry)))
         (chainStores (now («row_heads» .exit)) (now («row_links» .entry)) (now («set_heads» .exit)) (now («set_links» .exit)))
         (planStores (now («l_subs» .exit)) (now («l_starts» .exit)) (now («l_slots» .exit))
         (now («u_subs» .exit)) (now («u_starts» .exit)) (now («u_slots» .exit))) ⌝ }

@@ -52,7 +52,7 @@ module _ {p : Lent} {n k : ℕ} (step : StepOf p n k) where
     grown-alone (Sole l) = tt
     grown-alone (Behind shared from) = tt
 
-    pub whole-at-once : {lists : Lists} {lowers uppers : List ℕ} → ListsAt lists p n k row (afterTest (patternOf p) k) k lowers uppers → ListsWhole lists p n k row lowers uppers
+    pub whole-at-once : {lists : Lists} {lowers uppers : List ℕ} → ListsAt lists p k row (afterTest (patternOf p) k) k lowers uppers → ListsWhole lists p k row lowers uppers
     whole-at-once {lists} at = record { at = rw passed-over at; lower-alone = grown-alone (lists .lower); upper-alone = grown-alone (lists .upper) }
 
   -- the chains of the step at hand
@@ -62,9 +62,9 @@ module _ {p : Lent} {n k : ℕ} (step : StepOf p n k) where
   chains-here rowHeads rowLinks setHeads setLinks chains e = rw e (chains-at p n k rowHeads rowLinks setHeads setLinks step chains)
 
   -- the rows that are met after 2.2 are met after the step
-  pub rows-after : {heads links : List ℕ} → Chained heads links n (unmetAt p (afterRows (patternOf p) k .known)) → Chained heads links n (unmetAt p (after (patternOf p) k))
+  pub rows-after : {heads links : List ℕ} → Chained heads links (p .height) n (unmetAt p (afterRows (patternOf p) k .known)) → Chained heads links (p .height) n (unmetAt p (after (patternOf p) k))
   unfolding unmetAt
   rows-after {heads} {links} h =
-      chained-cong heads links n (unmetAt p (afterRows (patternOf p) k .known)) (unmetAt p (after (patternOf p) k))
+      chained-cong heads links (p .height) n (unmetAt p (afterRows (patternOf p) k .known)) (unmetAt p (after (patternOf p) k))
       (λ j l u. ap (λ (met : ℕ → Bool). keep (λ i. not (met i)) (rowsAt p j)) (rows-met (patternOf p) k (step .low)))
       h

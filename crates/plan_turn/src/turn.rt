@@ -2,9 +2,10 @@
 ghost use mathlib.Core.Path.{_≡_};
 ghost use Prim.Native.Nat.{suc, _-_};
 ghost use lib.ListN.{length, getD};
-ghost use Rattle.foundation.specs.Pattern.{lent, patternOf};
+ghost use Rattle.foundation.specs.Pattern.{patternOf};
 ghost use Rattle.foundation.specs.Plan.{lower, upper, afterTest};
 ghost use Rattle.answers.specs.Stores.{sideStores};
+ghost use Rattle.plan_gather.specs.Ready.{lentBy};
 ghost use Rattle.plan_gather.specs.Steps.{SideAt, ChainsOf, ChainsAt, EndsAre, chainStores};
 ghost use Rattle.plan_lists.specs.Lying.{ListsAt, ListsWhole};
 use answers::SubscriptPlace;
@@ -36,11 +37,11 @@ fn collect_influence(
     l_growing: &mut [usize],
     u_growing: &mut [usize],
 ) -> Lists
-    requires { ⌜ SideAt (lent n (now starts) (now columns)) lower n k (sideStores (now «l_subs») (now «l_starts») (now «l_slots»)) («l_end» .0)
-        × SideAt (lent n (now starts) (now columns)) upper n k (sideStores (now «u_subs») (now «u_starts») (now «u_slots»)) («u_end» .0) ⌝ }
-    requires { ⌜ ChainsOf (lent n (now starts) (now columns)) k row (now «row_links») set (now «set_links») × (length (now «set_links») ≡ suc n) ⌝ }
-    requires { ⌜ ListsAt rows (lent n (now starts) (now columns)) n k row (afterTest (patternOf (lent n (now starts) (now columns))) k) k (now «l_growing») (now «u_growing») ⌝ }
-    ensures { λ r. ⌜ ListsWhole r (lent n (now (starts .entry)) (now (columns .entry))) n k row (now («l_growing» .exit)) (now («u_growing» .exit)) ⌝ }
+    requires { ⌜ SideAt (lentBy n (now starts) (now columns)) lower n k (sideStores (now «l_subs») (now «l_starts») (now «l_slots»)) («l_end» .0)
+        × SideAt (lentBy n (now starts) (now columns)) upper n k (sideStores (now «u_subs») (now «u_starts») (now «u_slots»)) («u_end» .0) ⌝ }
+    requires { ⌜ ChainsOf (lentBy n (now starts) (now columns)) k row (now «row_links») set (now «set_links») × (length (now «set_links») ≡ suc (lentBy n (now starts) (now columns) .height)) ⌝ }
+    requires { ⌜ ListsAt rows (lentBy n (now starts) (now columns)) k row (afterTest (patternOf (lentBy n (now starts) (now columns))) k) k (now «l_growing») (now «u_growing») ⌝ }
+    ensures { λ r. ⌜ ListsWhole r (lentBy n (now (starts .entry)) (now (columns .entry))) k row (now («l_growing» .exit)) (now («u_growing» .exit)) ⌝ }
 {
     // (2.3)
     if set == 0 {
@@ -93,14 +94,14 @@ pub fn step_lists(
     l_growing: &mut [usize],
     u_growing: &mut [usize],
 ) -> Lists
-    requires { ⌜ SideAt (lent n (now starts) (now columns)) lower n k (sideStores (now «l_subs») (now «l_starts») (now «l_slots»)) («l_end» .0)
-        × SideAt (lent n (now starts) (now columns)) upper n k (sideStores (now «u_subs») (now «u_starts») (now «u_slots»)) («u_end» .0) ⌝ }
-    requires { ⌜ ChainsAt (lent n (now starts) (now columns)) n (k - 1) (chainStores (now «row_heads») (now «row_links») (now «set_heads») (now «set_links»))
+    requires { ⌜ SideAt (lentBy n (now starts) (now columns)) lower n k (sideStores (now «l_subs») (now «l_starts») (now «l_slots»)) («l_end» .0)
+        × SideAt (lentBy n (now starts) (now columns)) upper n k (sideStores (now «u_subs») (now «u_starts») (now «u_slots»)) («u_end» .0) ⌝ }
+    requires { ⌜ ChainsAt (lentBy n (now starts) (now columns)) n (k - 1) (chainStores (now «row_heads») (now «row_links») (now «set_heads») (now «set_links»))
         × (row ≡ getD (now «row_heads») k 0) ⌝ }
-    requires { ⌜ EndsAre (lent n (now starts) (now columns)) (k - 1) («l_end» .0) («u_end» .0) reads ⌝ }
-    requires { ⌜ (length (now «l_growing») ≡ n) × (length (now «u_growing») ≡ n) ⌝ }
-    ensures lists { λ r. ⌜ ListsWhole r (lent n (now (starts .entry)) (now (columns .entry))) n k row (now («l_growing» .exit)) (now («u_growing» .exit)) ⌝ }
-    ensures chains { λ r. ⌜ ChainsAt (lent n (now (starts .entry)) (now (columns .entry))) n k
+    requires { ⌜ EndsAre (lentBy n (now starts) (now columns)) (k - 1) («l_end» .0) («u_end» .0) reads ⌝ }
+    requires { ⌜ (length (now «l_growing») ≡ lentBy n (now starts) (now columns) .height) × (length (now «u_growing») ≡ lentBy n (now starts) (now columns) .height) ⌝ }
+    ensures lists { λ r. ⌜ ListsWhole r (lentBy n (now (starts .entry)) (now (columns .entry))) k row (now («l_growing» .exit)) (now («u_growing» .exit)) ⌝ }
+    ensures chains { λ r. ⌜ ChainsAt (lentBy n (now (starts .entry)) (now (columns .entry))) n k
         (chainStores (now («row_heads» .exit)) (now («row_links» .entry)) (now («set_heads» .exit)) (now («set_links» .exit))) ⌝ }
 {
     let set = set_heads[k];

@@ -13,7 +13,7 @@ use Rattle.answers.specs.Answers.{refusalOf, answerOf}
 use Rattle.answers.specs.Stores.{planStores, WorkStores, workStores, workSizes, WorkLeft, sideStores}
 use Rattle.answers.specs.declared.PlanCounts.{PlanCounts}
 use Rattle.answers.specs.declared.Refusal.{Refusal}
-use Rattle.answers.specs.declared.Refusal.the-variants.{Limits, Starts, Column, Order, Diagonal, Stores, LowerRoom, UpperRoom, OtherPlan}
+use Rattle.answers.specs.declared.Refusal.the-variants.{Limits, Height, Starts, Column, Order, Diagonal, Stores, LowerRoom, UpperRoom, OtherPlan}
 use Rattle.answers.specs.declared.PlanAnswer.{PlanAnswer}
 use Rattle.answers.specs.declared.PlanAnswer.the-variants.{Planned, Refused}
 use Rattle.store_clear.specs.Clearing.{Zeros}
@@ -32,6 +32,7 @@ use Rattle.planning.specs.Calls.{PlanKept}
 refusal-refuses : (r : Refusal) (a : Counts) → refusalOf r ≡ granted a → ⊥
 unfolding refusalOf
 refusal-refuses Limits a e = let z : _≡_ {A = ℕ} 0 1 = cc in omega arith
+refusal-refuses Height a e = let z : _≡_ {A = ℕ} 0 1 = cc in omega arith
 refusal-refuses Starts a e = let z : _≡_ {A = ℕ} 0 1 = cc in omega arith
 refusal-refuses Column a e = let z : _≡_ {A = ℕ} 0 1 = cc in omega arith
 refusal-refuses Order a e = let z : _≡_ {A = ℕ} 0 1 = cc in omega arith
@@ -129,32 +130,32 @@ work-left rows rest cleared = record {
 }
 
 -- A planning call. The stores of a plan are a, b, c of L and d, e, f of U: as lent, after planning (′), and cleared after a refusal (″).
-module _ (most n : ℕ) (starts columns a b c d e f : List ℕ) (scratch scratch″ : WorkStores) (r : PlanAnswer)
-    (says : answerOf r ≡ planAnswer (lent n starts columns) (planned most (lent n starts columns) (planStores a b c d e f) (workSizes scratch)))
+module _ (most n height : ℕ) (starts columns a b c d e f : List ℕ) (scratch scratch″ : WorkStores) (r : PlanAnswer)
+    (says : answerOf r ≡ planAnswer (lent n height starts columns) (planned most (lent n height starts columns) (planStores a b c d e f) (workSizes scratch)))
     (left : WorkLeft scratch scratch″) (a′ b′ c′ d′ e′ f′ : List ℕ) (lowers : SameSizes a b c a′ b′ c′) (uppers : SameSizes d e f d′ e′ f′) where
   -- after a refusal the stores of a plan are cleared
   pub call-refused :
       (x : Refusal) (a″ b″ c″ d″ e″ f″ : List ℕ) → r ≡ Refused x → SideZeros a′ b′ c′ a″ b″ c″ → SideZeros d′ e′ f′ d″ e″ f″
-      → PlanKept (Refused x) most (lent n starts columns) (planStores a b c d e f) (planStores a″ b″ c″ d″ e″ f″) scratch scratch″
+      → PlanKept (Refused x) most (lent n height starts columns) (planStores a b c d e f) (planStores a″ b″ c″ d″ e″ f″) scratch scratch″
   call-refused x a″ b″ c″ d″ e″ f″ q l u =
-      let told : answerOf (Refused x) ≡ planAnswer (lent n starts columns) (planned most (lent n starts columns) (planStores a b c d e f) (workSizes scratch)) =
+      let told : answerOf (Refused x) ≡ planAnswer (lent n height starts columns) (planned most (lent n height starts columns) (planStores a b c d e f) (workSizes scratch)) =
       ap answerOf (sym q) ∙ says in
       record {
         answer = told;
-        results = both-sides (side-zeros lowers l) (side-zeros uppers u) ∙ sym (leaves-zeros (lent n starts columns) _ x a b c d e f told);
+        results = both-sides (side-zeros lowers l) (side-zeros uppers u) ∙ sym (leaves-zeros (lent n height starts columns) _ x a b c d e f told);
         work = left;
       }
 
   -- a plan that was made stands in its stores
   pub call-planned :
-      (v : PlanCounts) → r ≡ Planned v → PlannedAs r (lent n starts columns) n (length a) (length d) (planStores a′ b′ c′ d′ e′ f′)
-      → PlanKept r most (lent n starts columns) (planStores a b c d e f) (planStores a′ b′ c′ d′ e′ f′) scratch scratch″
+      (v : PlanCounts) → r ≡ Planned v → PlannedAs r (lent n height starts columns) n (length a) (length d) (planStores a′ b′ c′ d′ e′ f′)
+      → PlanKept r most (lent n height starts columns) (planStores a b c d e f) (planStores a′ b′ c′ d′ e′ f′) scratch scratch″
   call-planned v q stands = record {
     answer = says;
     results =
-        sym (leaves-plan (lent n starts columns) _ n v a b c d e f a′ b′ c′ d′ e′ f′ (lent-n n starts columns)
-        (planned-same most (lent n starts columns) (planStores a b c d e f) (workSizes scratch)) (ap answerOf (sym q) ∙ says)
+        sym (leaves-plan (lent n height starts columns) _ n v a b c d e f a′ b′ c′ d′ e′ f′ (lent-n n height starts columns)
+        (planned-same most (lent n height starts columns) (planStores a b c d e f) (workSizes scratch)) (ap answerOf (sym q) ∙ says)
         (lowers .second) (lowers .third) (uppers .second) (uppers .third)
-        (subst (λ (x : PlanAnswer). PlannedAs x (lent n starts columns) n (length a) (length d) (planStores a′ b′ c′ d′ e′ f′)) q stands));
+        (subst (λ (x : PlanAnswer). PlannedAs x (lent n height starts columns) n (length a) (length d) (planStores a′ b′ c′ d′ e′ f′)) q stands));
     work = left;
   }

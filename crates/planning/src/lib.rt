@@ -13,11 +13,12 @@ use store_lists::clear_side;
 use store_lists::clear_work;
 use verify_call::judge_and_verify;
 
-// The plan of a pattern of n rows, `most` being the largest n that is taken. Result stores: for each side the subscripts (any length), n
-// starts of lists, n+1 starts of value slots. Work stores: four of n+1 places, two of n.
+// The plan of a pattern of n columns and `height` rows, `most` being the largest n that is taken. Result stores: for each side the subscripts (any length), n
+// starts of lists, n+1 starts of value slots. Work stores: four with one place more than there are rows, two with a place for each row.
 pub fn plan(
     most: usize,
     n: usize,
+    height: usize,
     starts: &[usize],
     columns: &[usize],
     l_subs: &mut [usize],
@@ -33,7 +34,7 @@ pub fn plan(
     list: &mut [usize],
     spare: &mut [usize],
 ) -> PlanAnswer
-    ensures { λ r. ⌜ PlanKept r most (lent n (now (starts .entry)) (now (columns .entry)))
+    ensures { λ r. ⌜ PlanKept r most (lent n height (now (starts .entry)) (now (columns .entry)))
         (planStores (now («l_subs» .entry)) (now («l_starts» .entry)) (now («l_slots» .entry))
         (now («u_subs» .entry)) (now («u_starts» .entry)) (now («u_slots» .entry)))
         (planStores (now («l_subs» .exit)) (now («l_starts» .exit)) (now («l_slots» .exit))
@@ -46,6 +47,7 @@ pub fn plan(
     let answer = judge_and_plan(
         most,
         n,
+        height,
         starts,
         columns,
         l_subs,
@@ -70,11 +72,12 @@ pub fn plan(
     answer
 }
 
-// Whether a lent plan, its counts and its stores, is the plan of this pattern: it agrees, or one of the refusals 1 to 6 or 9. The work stores
+// Whether a lent plan, its counts and its stores, is the plan of this pattern: it agrees, or one of the refusals 1 to 6, 9 or 25. The work stores
 // are those of `plan`.
 pub fn verify(
     most: usize,
     n: usize,
+    height: usize,
     starts: &[usize],
     columns: &[usize],
     counts: PlanCounts,
@@ -91,7 +94,7 @@ pub fn verify(
     list: &mut [usize],
     spare: &mut [usize],
 ) -> VerifyAnswer
-    ensures { λ r. ⌜ VerifyKept r most (lent n (now (starts .entry)) (now (columns .entry)))
+    ensures { λ r. ⌜ VerifyKept r most (lent n height (now (starts .entry)) (now (columns .entry)))
         (lentPlan counts
         (planStores (now («l_subs» .entry)) (now («l_starts» .entry)) (now («l_slots» .entry))
         (now («u_subs» .entry)) (now («u_starts» .entry)) (now («u_slots» .entry))))
@@ -103,6 +106,7 @@ pub fn verify(
     let answer = judge_and_verify(
         most,
         n,
+        height,
         starts,
         columns,
         counts,

@@ -10,13 +10,13 @@ use Rattle.lists.specs.Functions.{same}
 use Rattle.lists.specs.Sets.{Ascending}
 use Rattle.lists.proofs.Members.{and-left, and-right, same-equal}
 use Rattle.foundation.specs.Facts.{Opens}
-use Rattle.foundation.specs.Pattern.{Lent, patternOf, patternFault, maxN}
+use Rattle.foundation.specs.Pattern.{Lent, patternOf, patternFault, maxN, maxHeight}
 use Rattle.foundation.specs.Plan.{Planning, Side, lower, upper, plan}
 use Rattle.foundation.specs.PlanCall.{SideStores, LentPlan, subscripts, sameCounts, sameSide, agrees, countsOf}
 use Rattle.foundation.specs.Slots.{slotStarts}
 use Rattle.foundation.specs.Subscripts.{kept, shared, startsStore, opened}
 use Rattle.foundation.proofs.Opening.{Lies, lies-on}
-use Rattle.foundation.proofs.Passing.{passes-small}
+use Rattle.foundation.proofs.Passing.{passes-small, passes-height}
 use Rattle.foundation.proofs.Starts.{start-at, length-starts, slot-start-at, length-slot-starts}
 use Rattle.foundation.proofs.Theorems.{plan-has-its-facts, subscripts-open}
 use Rattle.run_slots.specs.Index.{Indexed, Grid, Layout}
@@ -70,15 +70,16 @@ module _ (s : Planning) (side : Side) (n : ℕ) (q : SideStores) (agreed : sameS
 -- Where 1 to 5 and 9 are not given, the lent stores are laid out as the pattern's plan.
 pub agreed-layout : (most : ℕ) (p : Lent) (q : LentPlan) → patternFault most p ≡ 0 → agrees p (plan (patternOf p)) q ≡ true
     → Layout (patternOf p) (plan (patternOf p)) (p .n) (q .stores)
-unfolding agrees patternOf maxN
+unfolding agrees patternOf maxN maxHeight
 agreed-layout most p q passes agreed =
     let s = plan (patternOf p) in
     let facts = plan-has-its-facts most p passes in
-    let grid : Grid s (p .n) = grid-from (patternOf p) s facts refl in
+    let grid : Grid s (p .n) (p .height) = grid-from (patternOf p) s facts in
     let sides = and-right (sameCounts (q .counts) (countsOf p s)) _ agreed in
     record {
       width = refl;
-      height = refl;
+      tall = passes-height most p passes .0;
+      rows-few = passes-height most p passes .1;
       some = passes-small most p passes .0;
       few = passes-small most p passes .2;
       lowers = side-indexed s lower (p .n) (q .stores .lowerSide) (and-left (sameSide s lower (p .n) (q .stores .lowerSide)) _ sides)

@@ -17,9 +17,9 @@ use Rattle.foundation.specs.Answer.{Answer, refused, granted, refuseIf, andThen
 use Rattle.foundation.specs.Numbers.{plusZero, finite}
 use Rattle.foundation.specs.Pattern.{Lent, patternOf}
 use Rattle.foundation.specs.Plan.{Planning, lower, upper, plan}
-use Rattle.foundation.specs.PlanCall.{LentPlan, WorkSizes, sizesFit, held}
+use Rattle.foundation.specs.PlanCall.{LentPlan, WorkSizes, sizesFit, heldIf}
 use Rattle.foundation.specs.Reference.{Choice, Extent, Reason, noPivot, notFinite, Course, numberOf, reference}
-use Rattle.foundation.specs.RunCall.{Lending, RunStores, lendingFits, allFinite, orderFits, valueAt, rightAt, courseAnswer, ranWith, ran, runAnswer, slotsAfter, diagonalAfter, solutionAfter, pivotsAfter, runLeaves}
+use Rattle.foundation.specs.RunCall.{Lending, RunStores, lendingFits, allFinite, orderFits, mayRun, valueAt, rightAt, courseAnswer, ranWith, ran, runAnswer, slotsAfter, diagonalAfter, solutionAfter, pivotsAfter, runLeaves}
 use Rattle.foundation.specs.Shown.{shown, shownDiagonal}
 use Rattle.foundation.specs.Slots.{slotsOf}
 use Rattle.foundation.proofs.Passing.{passes-plannable, passes-starts}
@@ -46,7 +46,7 @@ use Rattle.run_call.proofs.Agreed.{agreed-layout}
 
 -- all tests passed
 pub record Passed (most : ℕ) (p : Lent) (q : LentPlan) (work : WorkSizes) (choice : Choice) (extent : Extent) (lending : Lending) : Type 0 where
-  pub verified : Verified most p q work
+  pub verified : Verified (mayRun p extent) most p q work
   pub lends : lendingFits p (plan (patternOf p)) lending ≡ true
   pub fine : allFinite lending ≡ true
   pub order : orderFits (patternOf p) choice extent ≡ true
@@ -69,9 +69,9 @@ granted-before (granted s) f e = refl
 module _ (most : ℕ) (p : Lent) (q : LentPlan) (work : WorkSizes) (choice : Choice) (extent : Extent) (lending : Lending) where
   pub passed-from : tested most p q work choice extent lending ≡ granted tt → Passed most p q work choice extent lending
   unfolding tested inOrder refuseIf andThen
-  passed-from e = at (verified-from most p q work (granted-before (held most p q work) _ e))
+  passed-from e = at (verified-from (mayRun p extent) most p q work (granted-before (heldIf (mayRun p extent) most p q work) _ e))
     where
-      at : Verified most p q work → Passed most p q work choice extent lending
+      at : Verified (mayRun p extent) most p q work → Passed most p q work choice extent lending
       at v =
           by-test (lendingFits p (plan (patternOf p)) lending)
           (λ a.
@@ -79,14 +79,14 @@ module _ (most : ℕ) (p : Lent) (q : LentPlan) (work : WorkSizes) (choice : Cho
           (λ b.
           by-test (orderFits (patternOf p) choice extent)
           (λ c. record { verified = v; lends = a; fine = b; order = c })
-          (λ c. not-granted 12 0 (rw (held-is most p q work v, a, b, c) at e)))
-          (λ b. not-granted 11 0 (rw (held-is most p q work v, a, b) at e)))
-          (λ a. not-granted 10 0 (rw (held-is most p q work v, a) at e))
+          (λ c. not-granted 12 0 (rw (held-is (mayRun p extent) most p q work v, a, b, c) at e)))
+          (λ b. not-granted 11 0 (rw (held-is (mayRun p extent) most p q work v, a, b) at e)))
+          (λ a. not-granted 10 0 (rw (held-is (mayRun p extent) most p q work v, a) at e))
 
   -- refused by a test
   pub ran-refused : (number step : ℕ) → tested most p q work choice extent lending ≡ refused number step → ran most p q work choice extent lending ≡ refused number step
   unfolding tested inOrder ran ranWith refuseIf andThen
-  ran-refused number step e = at (held most p q work) e
+  ran-refused number step e = at (heldIf (mayRun p extent) most p q work) e
     where
       at : (a : Answer Planning) → andThen a (λ s. inOrder (lendingFits p s lending) (allFinite lending) (orderFits (patternOf p) choice extent)) ≡ refused number step → andThen a (ranWith p choice extent lending) ≡ refused number step
       at (refused m k) e = refused-as m k number step e
@@ -105,15 +105,15 @@ module _ (most : ℕ) (p : Lent) (q : LentPlan) (work : WorkSizes) (choice : Cho
   pub ran-passed : Passed most p q work choice extent lending
       → ran most p q work choice extent lending ≡ courseAnswer (plan (patternOf p)) (reference choice extent (patternOf p) (valueAt p (lending .values)) (rightAt (lending .right)))
   unfolding ran ranWith refuseIf andThen
-  ran-passed w = rw (held-is most p q work (w .verified), w .lends, w .fine, w .order)
+  ran-passed w = rw (held-is (mayRun p extent) most p q work (w .verified), w .lends, w .fine, w .order)
 
 -- ---- what the run takes for granted
 
 -- what 10 lets pass
 record Lends (p : Lent) (s : Planning) (w : Lending) : Type 0 where
   values-size : length (w .values) ≡ length (p .columns)
-  right-size : length (w .right) ≡ p .n
-  solution-size : w .solution ≡ p .n
+  right-size : length (w .right) ≡ p .height
+  solution-size : w .solution ≡ p .height
   pivots-size : w .pivots ≡ p .n
   diagonal-size : w .diagonal ≡ p .n
   lower-room : slotsOf s lower (p .n) ≤ w .lowerSlots
@@ -123,14 +123,14 @@ lends-from : (p : Lent) (s : Planning) (w : Lending) → lendingFits p s w ≡ t
 unfolding lendingFits
 lends-from p s w e =
     let a = and-right (eqb (length (w .values)) (length (p .columns))) _ e in
-    let b = and-right (eqb (length (w .right)) (p .n)) _ a in
-    let c = and-right (eqb (w .solution) (p .n)) _ b in
+    let b = and-right (eqb (length (w .right)) (p .height)) _ a in
+    let c = and-right (eqb (w .solution) (p .height)) _ b in
     let d = and-right (eqb (w .pivots) (p .n)) _ c in
     let f = and-right (eqb (w .diagonal) (p .n)) _ d in
     record {
       values-size = eqb-true _ _ (and-left (eqb (length (w .values)) (length (p .columns))) _ e);
-      right-size = eqb-true _ _ (and-left (eqb (length (w .right)) (p .n)) _ a);
-      solution-size = eqb-true _ _ (and-left (eqb (w .solution) (p .n)) _ b);
+      right-size = eqb-true _ _ (and-left (eqb (length (w .right)) (p .height)) _ a);
+      solution-size = eqb-true _ _ (and-left (eqb (w .solution) (p .height)) _ b);
       pivots-size = eqb-true _ _ (and-left (eqb (w .pivots) (p .n)) _ c);
       diagonal-size = eqb-true _ _ (and-left (eqb (w .diagonal) (p .n)) _ d);
       lower-room = leb-true _ _ (and-left (leb (slotsOf s lower (p .n)) (w .lowerSlots)) _ f);
@@ -138,11 +138,11 @@ lends-from p s w e =
     }
 
 -- what 6 lets pass of the two f64 stores
-floats-from : (most : ℕ) (p : Lent) (q : LentPlan) (work : WorkSizes) (copy dense : ℕ) → sizesFit p (q .stores) (withFloats work copy dense) ≡ true → (copy ≡ p .n) × (dense ≡ suc (p .n))
+floats-from : (most : ℕ) (p : Lent) (q : LentPlan) (work : WorkSizes) (copy dense : ℕ) → sizesFit p (q .stores) (withFloats work copy dense) ≡ true → (copy ≡ p .height) × (dense ≡ suc (p .height))
 unfolding floatsFit
 floats-from most p q work copy dense e =
     let both = and-right (sizesFit p (q .stores) work) _ (sym (sizes-more most p q work copy dense) ∙ e) in
-    (sym (eqb-true (p .n) copy (and-left (eqb (p .n) copy) _ both)), sym (eqb-true (suc (p .n)) dense (and-right (eqb (p .n) copy) _ both)))
+    (sym (eqb-true (p .height) copy (and-left (eqb (p .height) copy) _ both)), sym (eqb-true (suc (p .height)) dense (and-right (eqb (p .height) copy) _ both)))
 
 -- ---- how a course ended, as an outcome and in the stores
 
@@ -159,9 +159,9 @@ full-store f n room store e size =
     e ∙ sym (padded-full plusZero (map f (upto n))) ∙ ap (λ (m : ℕ). padded plusZero m (map f (upto n))) long
 
 module _ (s : Planning) (i : Inputs) (stores : RunStores) (course : Course)
-    (d-size : length (stores .diagonal) ≡ i .p .n) (x-size : length (stores .solution) ≡ i .p .n) (pivots-size : length (stores .pivots) ≡ i .p .n)
+    (d-size : length (stores .diagonal) ≡ i .p .n) (x-size : length (stores .solution) ≡ i .p .height) (pivots-size : length (stores .pivots) ≡ i .p .n)
     (stores′ : RunStores) (l-size : length (stores′ .lowerSlots) ≡ length (stores .lowerSlots)) (u-size : length (stores′ .upperSlots) ≡ length (stores .upperSlots)) where
-  finished-stores : (updates : ℕ) → Finishes s (i .p .n) course updates stores′ → stores′ ≡ runLeaves (i .p) (lendingIn i stores) (courseAnswer s course)
+  finished-stores : (updates : ℕ) → Finishes s (i .p .n) (i .p .height) course updates stores′ → stores′ ≡ runLeaves (i .p) (lendingIn i stores) (courseAnswer s course)
   unfolding runLeaves slotsAfter diagonalAfter solutionAfter pivotsAfter resultStore courseAnswer shownDiagonal
   finished-stores updates w =
       rw (w .course-is)
@@ -169,10 +169,10 @@ module _ (s : Planning) (i : Inputs) (stores : RunStores) (course : Course)
       (w .shows .lowers .holds ∙ ap (λ (m : ℕ). padded plusZero m (shown s lower (i .p .n) (w .g .square))) l-size)
       (w .shows .uppers .holds ∙ ap (λ (m : ℕ). padded plusZero m (shown s upper (i .p .n) (w .g .square))) u-size)
       (full-store (λ j. (w .g .square) j j) (i .p .n) (length (stores .diagonal)) (stores′ .diagonal) (w .shows .diagonal) d-size)
-      (full-store (w .g .right) (i .p .n) (length (stores .solution)) (stores′ .solution) (w .shows .rights) x-size)
+      (full-store (w .g .right) (i .p .height) (length (stores .solution)) (stores′ .solution) (w .shows .rights) x-size)
       (w .pivots-are ∙ ap (λ (m : ℕ). padded 0 m (w .g .pivots)) (sym pivots-size)))
 
-  pub ends-left : (r : RunOutcome) → EndsAs r s (i .p .n) course stores′
+  pub ends-left : (r : RunOutcome) → EndsAs r s (i .p .n) (i .p .height) course stores′
       → (outcomeOf r ≡ runAnswer (courseAnswer s course)) × StoresAs r (i .p) (lendingIn i stores) (courseAnswer s course) stores′
   unfolding outcomeOf runAnswer courseAnswer andThen
   ends-left (Finished updates) w = (rw (w .course-is) (ap granted (w .counted)), finished-stores updates w)
@@ -212,15 +212,16 @@ module _ (i : Inputs) (stores : RunStores) (copy dense : List Float) where
         values-finite = and-left (all finite (i .values)) (all finite (i .right)) (w .fine);
         right-finite = and-right (all finite (i .values)) (all finite (i .right)) (w .fine);
         order = w .order;
+        may = w .verified .may-be;
         copy-size = floats .0;
-        dense-size = floats .1 ∙ sym (add-one (i .p .n));
+        dense-size = floats .1 ∙ sym (add-one (i .p .height));
         clear = clear;
         pivots-blank = ap (λ (z : RunStores). z .pivots) blank ∙ ap (λ (m : ℕ). replicate m 0) (lends .pivots-size);
       }
 
   module _ {verified : VerifyAnswer} (g : Given verified i) where
     -- what the tests are told
-    judge-asks : JudgeAsks verified (i .p .n) (length (i .p .columns)) (i .q .counts .lowerSlots) (i .q .counts .upperSlots)
+    judge-asks : JudgeAsks verified (i .p .n) (i .p .height) (length (i .p .columns)) (i .q .counts .lowerSlots) (i .q .counts .upperSlots)
     judge-asks = record {
       most = g .most;
       p = i .p;
@@ -228,6 +229,7 @@ module _ (i : Inputs) (stores : RunStores) (copy dense : List Float) where
       work = g .work;
       answered = g .answered;
       width = refl;
+      tall-is = refl;
       entries-are = refl;
       l-slots = refl;
       u-slots = refl;
@@ -236,7 +238,7 @@ module _ (i : Inputs) (stores : RunStores) (copy dense : List Float) where
     -- what they say
     abbrev pub Says : Judgement → Type 0
     Says judged =
-        (w : JudgeAsks verified (i .p .n) (length (i .p .columns)) (i .q .counts .lowerSlots) (i .q .counts .upperSlots))
+        (w : JudgeAsks verified (i .p .n) (i .p .height) (length (i .p .columns)) (i .q .counts .lowerSlots) (i .q .counts .upperSlots))
         → judgementOf judged ≡ tested (w .most) (w .p) (w .q) (withFloats (w .work) (length copy) (length dense)) (i .choice) (i .extent) (lendingIn i stores)
 
     pub all-passed : Says MayRun → AllPassed (g .most) (g .work)

@@ -1,4 +1,4 @@
-// A run once planning has answered about the lent plan: the tests 10, 11 and 12, the run in cleared stores, and what it leaves.
+// A run once planning has answered about the lent plan: the tests 26, 10, 11 and 12, the run in cleared stores, and what it leaves.
 ghost use Rattle.foundation.specs.Pattern.{lent};
 ghost use Rattle.answers.specs.RunStores.{runStores};
 ghost use Rattle.answers.specs.Runs.{chosenBy, extentOf};
@@ -23,6 +23,7 @@ use run_loop::run_planned;
 fn run_cleared(
     verified: VerifyAnswer,
     n: usize,
+    height: usize,
     starts: &[usize],
     columns: &[usize],
     counts: PlanCounts,
@@ -45,11 +46,11 @@ fn run_cleared(
     copy: &mut [f64],
     dense: &mut [f64],
 ) -> RunOutcome
-    requires { ⌜ Given verified (inputs (lent n (now starts) (now columns))
+    requires { ⌜ Given verified (inputs (lent n height (now starts) (now columns))
         (lentPlan counts (planStores (now «l_subs») (now «l_starts») (now «l_slots») (now «u_subs») (now «u_starts») (now «u_slots»)))
         (now values) (now right) (chosenBy choice (now rows)) (extentOf extent)) ⌝ }
     requires { ⌜ Blank (runStores (now l) (now u) (now d) (now x) (now pivots)) × Clear (now dense) ⌝ }
-    ensures { λ r. ⌜ Clear (now (dense .exit)) × ((w : Given verified (inputs (lent n (now (starts .entry)) (now (columns .entry)))
+    ensures { λ r. ⌜ Clear (now (dense .exit)) × ((w : Given verified (inputs (lent n height (now (starts .entry)) (now (columns .entry)))
         (lentPlan counts (planStores (now («l_subs» .entry)) (now («l_starts» .entry)) (now («l_slots» .entry)) (now («u_subs» .entry)) (now («u_starts» .entry)) (now («u_slots» .entry))))
         (now (values .entry)) (now (right .entry)) (chosenBy choice (now (rows .entry))) (extentOf extent)))
         → OutcomeLeft r _ _ w (runStores (now (l .entry)) (now (u .entry)) (now (d .entry)) (now (x .entry)) (now (pivots .entry))) (now (copy .entry)) (now (dense .entry))
@@ -60,6 +61,7 @@ fn run_cleared(
     let judged = judge(
         verified,
         n,
+        height,
         columns.len(),
         l_planned,
         u_planned,
@@ -81,6 +83,7 @@ fn run_cleared(
         Judgement::MayRun => {
             run_planned(
                 n,
+                height,
                 starts,
                 columns,
                 values,
@@ -106,10 +109,11 @@ fn run_cleared(
     }
 }
 
-// A run, with all that it leaves: its stores cleared first, its work stores cleared again, its result stores too where it stopped.
+// A run of `height` rows, with all that it leaves: its stores cleared first, its work stores cleared again, its result stores too where it stopped.
 pub fn run_verified(
     verified: VerifyAnswer,
     n: usize,
+    height: usize,
     starts: &[usize],
     columns: &[usize],
     counts: PlanCounts,
@@ -132,10 +136,10 @@ pub fn run_verified(
     copy: &mut [f64],
     dense: &mut [f64],
 ) -> RunAnswer
-    requires { ⌜ Given verified (inputs (lent n (now starts) (now columns))
+    requires { ⌜ Given verified (inputs (lent n height (now starts) (now columns))
         (lentPlan counts (planStores (now «l_subs») (now «l_starts») (now «l_slots») (now «u_subs») (now «u_starts») (now «u_slots»)))
         (now values) (now right) (chosenBy choice (now rows)) (extentOf extent)) ⌝ }
-    ensures { λ r. ⌜ ((w : Given verified (inputs (lent n (now (starts .entry)) (now (columns .entry)))
+    ensures { λ r. ⌜ ((w : Given verified (inputs (lent n height (now (starts .entry)) (now (columns .entry)))
         (lentPlan counts (planStores (now («l_subs» .entry)) (now («l_starts» .entry)) (now («l_slots» .entry)) (now («u_subs» .entry)) (now («u_starts» .entry)) (now («u_slots» .entry))))
         (now (values .entry)) (now (right .entry)) (chosenBy choice (now (rows .entry))) (extentOf extent)))
         → RunLeft r _ _ w (runStores (now (l .entry)) (now (u .entry)) (now (d .entry)) (now (x .entry)) (now (pivots .entry))) (now (copy .entry)) (now (dense .entry))
@@ -146,6 +150,7 @@ pub fn run_verified(
     let outcome = run_cleared(
         verified,
         n,
+        height,
         starts,
         columns,
         counts,

@@ -2,23 +2,26 @@
 use mathlib.Core.Bool.{Bool, true, false, _&&_}
 use mathlib.Core.List.{List, [], _∷_, _++_, map}
 use mathlib.Core.Path.{_≡_, refl, sym, ap, _∙_}
-use Prim.Native.Nat.{ℕ, suc, _+_, _-_, _≤_, _<_}
+use Prim.Native.Nat.{ℕ, zero, suc, _+_, _-_, _≤_, _<_}
 use native.Mathlib.Numerals.{add-one}
 use native.Mathlib.Omega.{arith}
 use lib.Ieee.{Float, nan, fin, binary64, sub, mul, eq}
 use lib.IntN.{pos}
 use lib.ListN.{length, getD, take, set}
-use lib.Seq.{take-suc, take-all}
+use lib.Dec.{leb}
+use lib.Seq.{take-suc, take-all, take-nil}
+use borrow.Author.Tests.{le-leb, lt-leb}
 use Rattle.run_slots.specs.Products.{lessProduct}
-use Rattle.lists.specs.Functions.{all}
+use Rattle.lists.specs.Functions.{all, keep}
 use Rattle.lists.specs.Sets.{member, upto, Ascending}
 use Rattle.lists.proofs.Members.{by-test, fails, not-member-nil, all-snoc, member-snoc, member-snoc-other}
-use Rattle.lists.proofs.Order.{member-low, ascending-upto}
-use Rattle.lists.proofs.Places.{ascending-at, member-at, length-upto, getD-mapped, not-before, upto-at, map-upto-at}
+use Rattle.lists.proofs.Kept.{keep-nothing}
+use Rattle.lists.proofs.Order.{member-low, member-first}
+use Rattle.lists.proofs.Places.{ascending-at, member-at, getD-mapped, not-before, map-upto-at}
 use Rattle.foundation.specs.Numbers.{plusZero, isZero, finite, product, difference}
 use Rattle.foundation.specs.Reference.{reduced}
 use Rattle.foundation.proofs.FloatSteps.{reduced-left}
-use Rattle.run_slots.specs.Flags.{flagged}
+use Rattle.run_slots.specs.Flags.{flagged, withDiagonal}
 use Rattle.run_slots.proofs.Flags.{flagged-more}
 use Rattle.run_slots.proofs.Mapped.{map-cong, set-map, map-upto-set}
 use Rattle.store_search.proofs.Places.{found-member}
@@ -29,11 +32,12 @@ use Rattle.run_column.specs.Column.{rewritten, Rewritten}
 
 -- ---- the loop
 
-pub row-low : (room : ℕ) (rows : List ℕ) (t : ℕ) → Ascending 1 rows → Below (suc room) rows → t < length rows → (1 ≤ getD rows t 0) × (getD rows t 0 ≤ room)
+pub row-low : (rows : List ℕ) (t : ℕ) → Ascending 1 rows → t < length rows → 1 ≤ getD rows t 0
+row-low rows t asc l = member-low (getD rows t 0) 1 rows asc (member-at t rows l)
+
+pub row-high : (room : ℕ) (rows : List ℕ) (t : ℕ) → Below (suc room) rows → t < length rows → getD rows t 0 ≤ room
 unfolding Below
-row-low room rows t asc below l =
-    let m = member-at t rows l in
-    (member-low (getD rows t 0) 1 rows asc m, omega (arith, below (getD rows t 0) m))
+row-high room rows t below l = omega (arith, below (getD rows t 0) (member-at t rows l))
 
 pub rewriting-start : (f g : ℕ → Float) (n flag : ℕ) (store : List Float) → store ≡ map f (upto n) → Rewritten f g [] n flag store flag
 unfolding rewritten flagged all
@@ -41,24 +45,22 @@ rewriting-start f g n flag store e =
     record { is = e ∙ map-cong f _ (upto n) (λ i m. sym (rw (fails (member i []) (not-member-nil i)))); flags = refl }
 
 module _ (f g : ℕ → Float) (rows : List ℕ) (n flag : ℕ) (store : List Float) (bad t : ℕ) (h : Rewritten f g (take t rows) n flag store bad)
-    (asc : Ascending 1 rows) (below : Below (suc n) rows) (l : t < length rows) where
+    (asc : Ascending 1 rows) (l : t < length rows) (high : getD rows t 0 ≤ n) where
   -- a row not yet reached has its old number
   pub rewriting-reads : getD store (getD rows t 0 - 1) nan ≡ f (getD rows t 0)
   unfolding rewritten
   rewriting-reads =
-      let (low, high) = row-low n rows t asc below l in
-      ap (λ (zs : List Float). getD zs (getD rows t 0 - 1) nan) (h .is) ∙ map-upto-at (rewritten (take t rows) g f) n (getD rows t 0) nan low high ∙ rw (not-before 1 t rows asc l)
+      ap (λ (zs : List Float). getD zs (getD rows t 0 - 1) nan) (h .is) ∙ map-upto-at (rewritten (take t rows) g f) n (getD rows t 0) nan (row-low rows t asc l) high ∙ rw (not-before 1 t rows asc l)
 
   -- one row more
   pub rewriting-turn : (new : Float) (bad′ : ℕ) → new ≡ g (getD rows t 0) → bad′ ≡ flagged bad (finite new)
       → Rewritten f g (take (t + 1) rows) n flag (set store (getD rows t 0 - 1) new) bad′
   unfolding rewritten
   rewriting-turn new bad′ e v =
-      let (low, high) = row-low n rows t asc below l in
       let more : take (t + 1) rows ≡ take t rows ++ getD rows t 0 ∷ [] = rw add-one (take-suc rows t 0 l) in
       record {
         is = ap (λ (zs : List Float). set zs (getD rows t 0 - 1) new) (h .is)
-            ∙ map-upto-set (rewritten (take t rows) g f) (rewritten (take (t + 1) rows) g f) n (getD rows t 0) new low high
+            ∙ map-upto-set (rewritten (take t rows) g f) (rewritten (take (t + 1) rows) g f) n (getD rows t 0) new (row-low rows t asc l) high
             (rw (more, member-snoc (getD rows t 0) (take t rows)) (sym e))
             (λ j ne. rw (more, member-snoc-other j (getD rows t 0) (take t rows) ne));
         flags = v ∙ rw (e, h .flags, flagged-more, more, all-snoc);
@@ -67,6 +69,32 @@ module _ (f g : ℕ → Float) (rows : List ℕ) (n flag : ℕ) (store : List Fl
 pub rewriting-end : (f g : ℕ → Float) (rows : List ℕ) (n flag : ℕ) (store : List Float) (bad t : ℕ) → Rewritten f g (take t rows) n flag store bad → length rows ≤ t
     → Rewritten f g rows n flag store bad
 rewriting-end f g rows n flag store bad t h past = rw (take-all t rows past) at h
+
+-- ---- the rows with a place on the diagonal
+
+-- rows ascend: if the first t have a place there and the next has none, these t are all that have one
+diagonal-rows : (low n t : ℕ) (rows : List ℕ) → Ascending low rows → UpTo n t rows → t ≤ length rows → (t < length rows → n < getD rows t 0) → take t rows ≡ withDiagonal n rows
+unfolding withDiagonal keep UpTo Ascending
+diagonal-rows low n t [] asc up inside beyond = take-nil t
+diagonal-rows low n zero (i ∷ rows) asc up inside beyond =
+    sym (keep-nothing (λ j. leb j n) (i ∷ rows) (λ j m. lt-leb j n (omega (arith, beyond (omega arith), member-first j low i rows asc m))))
+diagonal-rows low n (suc t) (i ∷ rows) asc up inside beyond =
+    rw (le-leb i n (up 0 (omega arith)))
+    (ap (λ (zs : List ℕ). i ∷ zs) (diagonal-rows (suc i) n t rows (asc .1) (λ q l. up (suc q) (omega arith)) (omega arith) (λ l. beyond (omega arith))))
+
+pub diagonal-start : (n : ℕ) (rows : List ℕ) → UpTo n 0 rows
+unfolding UpTo
+diagonal-start n rows t l = absurd (omega arith)
+
+module _ (f g : ℕ → Float) (rows : List ℕ) (n flag : ℕ) (store : List Float) (bad t : ℕ) (h : Rewritten f g (take t rows) n flag store bad)
+    (asc : Ascending 1 rows) (up : UpTo n t rows) (inside : t ≤ length rows) where
+  -- the loop stops at the first row that has none
+  pub diagonal-stop : length store ≡ n → length store < getD rows t 0 → Rewritten f g (withDiagonal n rows) n flag store bad
+  diagonal-stop size beyond = rw (diagonal-rows 1 n t rows asc up inside (λ l. omega arith)) at h
+
+  -- or where there are no more rows
+  pub diagonal-end : length rows ≤ t → Rewritten f g (withDiagonal n rows) n flag store bad
+  diagonal-end past = rw (diagonal-rows 1 n t rows asc up inside (λ l. absurd (omega arith))) at h
 
 -- ---- the arms of the selects
 

@@ -11,7 +11,7 @@ use Rattle.foundation.specs.Numbers.{isZero, finite, product, difference, quoti
 use Rattle.foundation.specs.Reference.{multiplier, eliminated, eliminatedRight}
 use Rattle.foundation.specs.Shown.{shownDiagonal}
 use Rattle.foundation.specs.Square.{Square}
-use Rattle.run_slots.specs.Flags.{flagged, nonzeros}
+use Rattle.run_slots.specs.Flags.{flagged, nonzeros, withDiagonal}
 
 -- Document 01, "Elimination": "m = entry / pivot replaces it; a zero entry stays."
 unfoldable pub overPivot : Float → Float → Float
@@ -26,24 +26,27 @@ pub record Rewritten (old new : ℕ → Float) (rows : List ℕ) (n flag : ℕ) 
   pub is : store ≡ map (rewritten rows new old) (upto n)
   pub flags : r ≡ flagged flag (all (λ i. finite (new i)) rows)
 
--- Step k's column below the pivot, its row, the diagonal and the right side are those of a square; rows that are not listed have a zero in
--- column k.
+-- Step k's column below the pivot, its row, the diagonal and the right side are those of a square of n columns and `height` rows; rows that are
+-- not listed have a zero in column k.
 pub record ColumnAsks (part : List Float) (rows columns : List ℕ) (row d x : List Float) (k : ℕ) : Type 0 where
   pub n : ℕ
+  pub height : ℕ
   pub square : Square Float
   pub right : ℕ → Float
   pub low : 1 ≤ k
   pub high : k ≤ n
   pub few : n ≤ 1024
+  pub tall : n ≤ height
+  pub rows-few : height ≤ 2048
   pub rows-ascend : Ascending (suc k) rows
-  pub rows-bounded : (i : ℕ) → member i rows ≡ true → i ≤ n
+  pub rows-bounded : (i : ℕ) → member i rows ≡ true → i ≤ height
   pub columns-ascend : Ascending (suc k) columns
   pub columns-bounded : (j : ℕ) → member j columns ≡ true → j ≤ n
-  pub within : (i : ℕ) → member i rows ≡ true → member i columns ≡ true
+  pub within : (i : ℕ) → member i rows ≡ true → i ≤ n → member i columns ≡ true
   pub part-is : part ≡ map (λ i. square i k) rows
   pub row-is : row ≡ map (λ j. square k j) columns
   pub diagonal : d ≡ shownDiagonal n square
-  pub rights : x ≡ map right (upto n)
+  pub rights : x ≡ map right (upto height)
   pub others : (i : ℕ) → k < i → member i rows ≡ false → isZero (square i k) ≡ true
 
 -- The multipliers, the diagonal and the right side after the step; what is finite, and the step's updates.
@@ -51,8 +54,8 @@ pub record ColumnLeaves (part : List Float) (rows columns : List ℕ) (row d x :
     (w : ColumnAsks part rows columns row d x k) : Type 0 where
   pub part-is : part′ ≡ map (multiplier k (w .square)) rows
   pub diagonal : d′ ≡ shownDiagonal (w .n) (eliminated k (w .square))
-  pub rights : x′ ≡ map (eliminatedRight k (multiplier k (w .square)) (w .right)) (upto (w .n))
+  pub rights : x′ ≡ map (eliminatedRight k (multiplier k (w .square)) (w .right)) (upto (w .height))
   pub flags : flag ≡ flagged (flagged (flagged 0 (all finite (map (multiplier k (w .square)) rows)))
-      (all (λ i. finite (eliminatedRight k (multiplier k (w .square)) (w .right) i)) rows)) (all (λ i. finite (eliminated k (w .square) i i)) rows)
+      (all (λ i. finite (eliminatedRight k (multiplier k (w .square)) (w .right) i)) rows)) (all (λ i. finite (eliminated k (w .square) i i)) (withDiagonal (w .n) rows))
   pub counts : updates ≡ nonzeros (map (multiplier k (w .square)) rows) * nonzeros (map (λ j. (w .square) k j) columns)
-  pub few : updates ≤ 1048576
+  pub few : updates ≤ 2097152

@@ -11,7 +11,7 @@ ghost use Rattle.lists.specs.Functions.{all};
 ghost use Rattle.lists.specs.Sets.{member, upto, Ascending};
 ghost use Rattle.foundation.specs.Numbers.{finite};
 ghost use Rattle.foundation.specs.Reference.{reduced};
-ghost use Rattle.run_slots.specs.Flags.{flagged, nonzeros};
+ghost use Rattle.run_slots.specs.Flags.{flagged, nonzeros, withDiagonal};
 ghost use Rattle.run_stretch.specs.Stretches.{Below};
 ghost use Rattle.run_column.specs.Column.{overPivot, Rewritten};
 use crate::FlagCount;
@@ -82,7 +82,8 @@ pub fn reduce_right(x: &mut [f64], rows: &[usize], factors: &[f64], k: usize, fl
     bad
 }
 
-// The diagonal: off the place of each row, its multiplier times the pivot row's entry in that column. Every row is a column of the pivot row.
+// The diagonal: off the place of each row that has one there, its multiplier times the pivot row's entry in that column. Every such row is a
+// column of the pivot row.
 pub fn reduce_diagonal(
     d: &mut [f64],
     rows: &[usize],
@@ -92,15 +93,19 @@ pub fn reduce_diagonal(
     flag: usize,
 ) -> usize
     requires { ⌜ (length (now factors) ≡ length (now rows)) × (length (now values) ≡ length (now columns)) × Ascending 1 (now rows) × Ascending 0 (now columns)
-        × Below (suc (length (now d))) (now rows) × ((i : ℕ) → member i (now rows) ≡ true → member i (now columns) ≡ true) ⌝ }
+        × ((i : ℕ) → member i (now rows) ≡ true → i ≤ length (now d) → member i (now columns) ≡ true) ⌝ }
     ensures { λ r. ⌜ ((f m u : ℕ → Float) → now (d .entry) ≡ map f (upto (length (now (d .entry)))) → now (factors .entry) ≡ map m (now (rows .entry)) → now (values .entry) ≡ map u (now (columns .entry))
-        → Rewritten f (λ i. reduced (m i) (u i) (f i)) (now (rows .entry)) (length (now (d .entry))) flag (now (d .exit)) r) ⌝ }
+        → Rewritten f (λ i. reduced (m i) (u i) (f i)) (withDiagonal (length (now (d .entry))) (now (rows .entry))) (length (now (d .entry))) flag (now (d .exit)) r) ⌝ }
 {
     let mut bad = flag;
     let mut s = 0;
     let mut t = 0;
     while t < rows.len() {
         let i = rows[t];
+        // Rows ascend: from the first one above n on, none has a place here.
+        if d.len() < i {
+            return bad;
+        }
         let m = factors[t];
         s = first_above(columns, s, i - 1);
         let u = values[s];

@@ -11,27 +11,24 @@ use Rattle.lists.specs.Sets.{member, upto}
 use Rattle.lists.proofs.Places.{member-at}
 use Rattle.foundation.specs.Plan.{Planning, lower, upper}
 use Rattle.foundation.specs.PlanCall.{SideStores, PlanStores}
-use Rattle.foundation.specs.Slots.{slotsOf}
 use Rattle.foundation.specs.Square.{Square}
 use Rattle.foundation.specs.Subscripts.{kept}
 use Rattle.store_place.specs.Places.{ListAsks, ListAt}
+use Rattle.run_slots.specs.Index.{limit}
 use Rattle.run_slots.specs.Lists.{SlotOf}
 use Rattle.run_slots.specs.Shows.{SquareStores, squareStores, ShowsAll}
 use Rattle.run_slots.proofs.Grid.{above}
-use Rattle.run_slots.proofs.Lists.{partOf, ListLies, list-asks, list-lies}
-use Rattle.lists.proofs.Small.{next-le}
+use Rattle.run_slots.proofs.Lists.{partOf, ListLies, list-asks, list-lies, list-within}
+use Rattle.run_exchange.specs.Behind.{BehindAsks, BehindLeaves}
 use Rattle.run_exchange.specs.Exchange.{rowAt, ExchangeAsks, ExchangeLeaves}
-use Rattle.run_swap.specs.Swapping.{Swapped, BeforeAsks, BeforeLeaves, BeyondAsks, BeyondLeaves}
-use Rattle.run_swap.proofs.Columns.{first-column, own-column}
-use Rattle.run_swap.proofs.Puts.{lower-inside, upper-inside, diagonal-size, rights-size}
+use Rattle.run_swap.specs.Swapping.{Swapped, BeforeAsks, BeforeLeaves}
+use Rattle.run_swap.proofs.Columns.{first-column}
+use Rattle.run_swap.proofs.Puts.{lower-inside, diagonal-size, rights-size}
 use Rattle.run_exchange.proofs.Rights.{right-exchanged, exchange-done}
 
-pub some-done : (t : ℕ) → 1 ≤ t + 1
-some-done t = omega arith
-
-with-right : (s : Planning) (n : ℕ) (square : Square Float) (right right' : ℕ → Float) (l u d x x' : List Float) → ShowsAll s n square right (squareStores l u d x)
-    → x' ≡ map right' (upto n) → ShowsAll s n square right' (squareStores l u d x')
-with-right s n square right right' l u d x x' h e = record { lowers = h .lowers; uppers = h .uppers; diagonal = h .diagonal; rights = e }
+with-right : (s : Planning) (n height : ℕ) (square : Square Float) (right right' : ℕ → Float) (l u d x x' : List Float)
+    → ShowsAll s n height square right (squareStores l u d x) → x' ≡ map right' (upto height) → ShowsAll s n height square right' (squareStores l u d x')
+with-right s n height square right right' l u d x x' h e = record { lowers = h .lowers; uppers = h .uppers; diagonal = h .diagonal; rights = e }
 
 -- ---- the row that comes up
 
@@ -46,28 +43,26 @@ module _ (k place : ℕ) (stores : PlanStores) (z : SquareStores) (w : ExchangeA
   row-has = member-at place (kept (w .s) lower k) (w .inside)
 
   row-above : k < rowAt (w .s) k place
-  row-above = above (w .s) (w .n) (w .layout .grid) lower k (rowAt (w .s) k place) row-has
+  row-above = above (w .s) (w .n) (w .p .height) (w .layout .grid) lower k (rowAt (w .s) k place) row-has
 
-  row-last : rowAt (w .s) k place ≤ w .n
+  row-last : rowAt (w .s) k place ≤ w .p .height
+  unfolding limit
   row-last = w .layout .grid .bounded lower k (rowAt (w .s) k place) row-has
 
-  pub k-high : k ≤ w .n
-  k-high = omega (arith, row-above, row-last)
-
   pub column-place : length (lowers .subs) * 8 < 2 ^ 63 → ListAsks (lowers .starts) (lowers .slotStarts) k
-  column-place = list-asks (w .s) lower (w .n) lowers (w .layout .lowers) k (w .low) k-high
+  column-place = list-asks (w .s) lower (w .n) lowers (w .layout .lowers) k (w .low) (w .high)
 
   pub row-place : length (uppers .subs) * 8 < 2 ^ 63 → ListAsks (uppers .starts) (uppers .slotStarts) k
-  row-place = list-asks (w .s) upper (w .n) uppers (w .layout .uppers) k (w .low) k-high
+  row-place = list-asks (w .s) upper (w .n) uppers (w .layout .uppers) k (w .low) (w .high)
 
   pub diagonal-in : k - 1 < length (z .diagonal)
-  diagonal-in = omega (arith, diagonal-size (w .s) (w .n) (w .square) (w .right) z (w .shows), k-high, w .low)
+  diagonal-in = omega (arith, diagonal-size (w .s) (w .n) (w .p .height) (w .square) (w .right) z (w .shows), w .high, w .low)
 
   -- ---- L_k is open
 
   module _ (from to slot next : ℕ) (column : ListAt (lowers .starts) (lowers .slotStarts) k from to slot next) where
     column-lies : ListLies (w .s) lower lowers k from to slot next
-    column-lies = list-lies (w .s) lower (w .n) lowers (w .layout .lowers) k (w .low) k-high from to slot next column
+    column-lies = list-lies (w .s) lower (w .n) lowers (w .layout .lowers) k (w .low) (w .high) from to slot next column
 
     pub cell-in : from + place < length (lowers .subs)
     cell-in = omega (arith, column-lies .size, column-lies .ends, w .inside)
@@ -81,22 +76,23 @@ module _ (k place : ℕ) (stores : PlanStores) (z : SquareStores) (w : ExchangeA
     slot-p = record { at = place; inside = w .inside; member-is = refl; is = rw (column-lies .slot-is) }
 
     pub slot-in : slot + place < length (z .lowerSlots)
-    slot-in = lower-inside (w .s) (w .n) (w .square) (w .right) z (w .shows) (rowAt (w .s) k place) k (slot + place) (w .low) k-high slot-p
+    slot-in =
+        lower-inside (w .s) (w .n) (w .p .height) (w .square) (w .right) z (w .shows) (rowAt (w .s) k place) k (slot + place) (w .low) (w .high) slot-p
 
   -- ---- U_k is open
 
   module _ (start end first past : ℕ) (row : ListAt (uppers .starts) (uppers .slotStarts) k start end first past) where
-    row-lies : ListLies (w .s) upper uppers k start end first past
-    row-lies = list-lies (w .s) upper (w .n) uppers (w .layout .uppers) k (w .low) k-high start end first past row
+    pub row-lies : ListLies (w .s) upper uppers k start end first past
+    row-lies = list-lies (w .s) upper (w .n) uppers (w .layout .uppers) k (w .low) (w .high) start end first past row
 
     pub row-within : (start ≤ end) × (end ≤ length (uppers .subs))
-    row-within = (omega (arith, row-lies .size), row-lies .ends)
+    row-within = list-within (w .s) upper (w .n) uppers (w .layout .uppers) k (w .low) (w .high) start end first past row
 
-    pub us-are : partOf start end (uppers .subs) ≡ kept (w .s) upper k
-    us-are = row-lies .opens
+    us-size : length (partOf start end (uppers .subs)) ≡ length (kept (w .s) upper k)
+    us-size = ap length (row-lies .opens)
 
-    pub first-is : first ≡ slotsOf (w .s) upper (k - 1)
-    first-is = row-lies .slot-is
+    pub us-cells : start + length (partOf start end (uppers .subs)) ≤ length (uppers .subs)
+    us-cells = omega (arith, us-size, row-lies .size, row-lies .ends)
 
   module _ (p : ℕ) (is : p ≡ rowAt (w .s) k place) where
     pub p-row : member p (kept (w .s) lower k) ≡ true
@@ -105,45 +101,24 @@ module _ (k place : ℕ) (stores : PlanStores) (z : SquareStores) (w : ExchangeA
     pub p-above : k < p
     p-above = omega (arith, is, row-above)
 
-    pub p-last : p ≤ w .n
+    p-last : p ≤ w .p .height
     p-last = omega (arith, is, row-last)
 
-    pub p-low : 1 ≤ p
-    p-low = omega (arith, p-above)
-
     pub p-right : p - 1 < length (z .rightSide)
-    p-right = omega (arith, rights-size (w .s) (w .n) (w .square) (w .right) z (w .shows), p-above, p-last)
+    p-right = omega (arith, rights-size (w .s) (w .n) (w .p .height) (w .square) (w .right) z (w .shows), p-above, p-last)
 
     pub k-right : k - 1 < length (z .rightSide)
     k-right = omega (arith, p-right, p-above)
-
-    pub other-place : length (uppers .subs) * 8 < 2 ^ 63 → ListAsks (uppers .starts) (uppers .slotStarts) p
-    other-place = list-asks (w .s) upper (w .n) uppers (w .layout .uppers) p p-low p-last
-
-    -- ---- U_p is open
-
-    module _ (begin close second last : ℕ) (other : ListAt (uppers .starts) (uppers .slotStarts) p begin close second last) where
-      other-lies : ListLies (w .s) upper uppers p begin close second last
-      other-lies = list-lies (w .s) upper (w .n) uppers (w .layout .uppers) p p-low p-last begin close second last other
-
-      pub other-within : (begin ≤ close) × (close ≤ length (uppers .subs))
-      other-within = (omega (arith, other-lies .size), other-lies .ends)
-
-      pub own-are : partOf begin close (uppers .subs) ≡ kept (w .s) upper p
-      own-are = other-lies .opens
-
-      pub second-is : second ≡ slotsOf (w .s) upper (p - 1)
-      second-is = other-lies .slot-is
 
     -- ---- column k is done
 
     module _ (from to slot next : ℕ) (column : ListAt (lowers .starts) (lowers .slotStarts) k from to slot next) (l₁ d₁ : List Float)
         (diagonal : (d₁ ≡ set (z .diagonal) (k - 1) (getD (z .lowerSlots) (slot + place) nan)) × (l₁ ≡ set (z .lowerSlots) (slot + place) (getD (z .diagonal) (k - 1) nan)))
         (start end first past : ℕ) (row : ListAt (uppers .starts) (uppers .slotStarts) k start end first past) where
-      pub begun : Swapped (w .s) (w .n) k p 0 (w .square) (w .right) (squareStores l₁ (z .upperSlots) d₁ (z .rightSide))
+      pub begun : Swapped (w .s) (w .n) (w .p .height) k p 0 (w .square) (w .right) (squareStores l₁ (z .upperSlots) d₁ (z .rightSide))
       begun =
           rw (diagonal .0, diagonal .1)
-          (first-column (w .s) (w .n) (w .layout .grid) k p (w .square) (w .right) (w .low) p-row z (w .shows) (slot + place)
+          (first-column (w .s) (w .n) (w .p .height) (w .layout .grid) k p (w .square) (w .right) (w .low) p-row (w .high) z (w .shows) (slot + place)
           (rw is (slot-p from to slot next column)))
 
       abbrev pub before-asks : BeforeAsks (partOf start end (uppers .subs)) first p lowers l₁ (z .upperSlots)
@@ -151,6 +126,7 @@ module _ (k place : ℕ) (stores : PlanStores) (z : SquareStores) (w : ExchangeA
           record {
             s = w .s;
             n = w .n;
+            height = w .p .height;
             k = k;
             square = w .square;
             right = w .right;
@@ -160,8 +136,8 @@ module _ (k place : ℕ) (stores : PlanStores) (z : SquareStores) (w : ExchangeA
             index = w .layout .lowers;
             low = w .low;
             row = p-row;
-            us-are = us-are start end first past row;
-            first-is = first-is start end first past row;
+            us-are = row-lies start end first past row .opens;
+            first-is = row-lies start end first past row .slot-is;
             swapped = begun;
           }
 
@@ -169,72 +145,38 @@ module _ (k place : ℕ) (stores : PlanStores) (z : SquareStores) (w : ExchangeA
 
       module _ (t : ℕ) (l₂ u₂ : List Float) (before : (a : BeforeAsks (partOf start end (uppers .subs)) first p lowers l₁ (z .upperSlots))
           → BeforeLeaves t (partOf start end (uppers .subs)) first p lowers l₁ (z .upperSlots) l₂ u₂ a) where
-        in-row : t < length (kept (w .s) upper k)
-        in-row = rw (us-are start end first past row) at (before before-asks .inside)
+        abbrev pub behind-asks : BehindAsks (partOf start end (uppers .subs)) start first t p uppers u₂ d₁
+        behind-asks =
+            record {
+              s = w .s;
+              n = w .n;
+              height = w .p .height;
+              k = k;
+              square = w .square;
+              right = w .right;
+              l = l₂;
+              x = z .rightSide;
+              grid = w .layout .grid;
+              index = w .layout .uppers;
+              low = w .low;
+              row = p-row;
+              us-are = row-lies start end first past row .opens;
+              cells = us-cells start end first past row;
+              first-is = row-lies start end first past row .slot-is;
+              inside = before before-asks .inside;
+              at = before before-asks .at;
+              swapped = before before-asks .swapped;
+            }
 
-        at-p : getD (kept (w .s) upper k) t 0 ≡ p
-        at-p = rw (us-are start end first past row) at (before before-asks .at)
+        -- ---- all columns and the right side are done
 
-        slot-k : SlotOf (w .s) upper k (getD (kept (w .s) upper k) t 0) (first + t)
-        slot-k = record { at = t; inside = in-row; member-is = refl; is = rw (first-is start end first past row) }
-
-        pub own-in : first + t < length u₂
-        own-in = upper-inside (w .s) (w .n) _ (w .right) (squareStores l₂ u₂ d₁ (z .rightSide)) (before before-asks .swapped .shows) k _ (first + t) (w .low) k-high slot-k
-
-        pub p-in : p - 1 < length d₁
-        p-in = omega (arith, diagonal-size (w .s) (w .n) _ (w .right) (squareStores l₂ u₂ d₁ (z .rightSide)) (before before-asks .swapped .shows), p-above, p-last)
-
-        -- the cell behind p's lies among the subscripts or at their end
-        pub cell-next : start + t + 1 ≤ length (uppers .subs)
-        cell-next = let c = row-lies start end first past row in omega (arith, c .size, c .ends, in-row)
-
-        -- ---- column p is done
-
-        module _ (u₃ d₃ : List Float) (crossing : (d₃ ≡ set d₁ (p - 1) (getD u₂ (first + t) nan)) × (u₃ ≡ set u₂ (first + t) (getD d₁ (p - 1) nan)))
-            (begin close second last : ℕ) (other : ListAt (uppers .starts) (uppers .slotStarts) p begin close second last) where
-          pub crossed : Swapped (w .s) (w .n) k p (t + 1) (w .square) (w .right) (squareStores l₂ u₃ d₃ (z .rightSide))
-          crossed =
-              rw (crossing .0, crossing .1)
-              (own-column (w .s) (w .n) (w .layout .grid) k p (w .square) (w .right) (w .low) p-row t in-row (squareStores l₂ u₂ d₁ (z .rightSide)) (before before-asks .swapped) (first + t) slot-k at-p)
-
-          pub p-before : getD (partOf start end (uppers .subs)) (t + 1 - 1) 0 ≡ p
-          p-before = let e : t + 1 - 1 ≡ t = omega arith in rw e (before before-asks .at)
-
-          abbrev pub beyond-asks : BeyondAsks (partOf start end (uppers .subs)) first (t + 1) (partOf begin close (uppers .subs)) second u₃
-          beyond-asks =
-              record {
-                s = w .s;
-                n = w .n;
-                k = k;
-                p = p;
-                square = w .square;
-                right = w .right;
-                l = l₂;
-                d = d₃;
-                x = z .rightSide;
-                grid = w .layout .grid;
-                low = w .low;
-                row = p-row;
-                us-are = us-are start end first past row;
-                first-is = first-is start end first past row;
-                own-are = own-are begin close second last other;
-                second-is = second-is begin close second last other;
-                some = some-done t;
-                within = next-le _ _ (before before-asks .inside);
-                last = p-before;
-                swapped = crossed;
-              }
-
-          -- ---- all columns and the right side are done
-
-          pub whole : (u₄ x₁ : List Float)
-              → ((a : BeyondAsks (partOf start end (uppers .subs)) first (t + 1) (partOf begin close (uppers .subs)) second u₃)
-              → BeyondLeaves (partOf start end (uppers .subs)) first (t + 1) (partOf begin close (uppers .subs)) second u₃ u₄ a)
-              → x₁ ≡ set (set (z .rightSide) (k - 1) (getD (z .rightSide) (p - 1) nan)) (p - 1) (getD (z .rightSide) (k - 1) nan)
-              → ExchangeLeaves k place stores z (squareStores l₂ u₄ d₃ x₁) w
-          whole u₄ x₁ beyond rights =
-              let all-done : length (kept (w .s) upper k) ≤ length (partOf start end (uppers .subs)) = rw (us-are start end first past row) (omega arith) in
-              rw (← is)
-              (with-right (w .s) (w .n) _ (w .right) _ l₂ u₄ d₃ (z .rightSide) x₁
-              (exchange-done (w .s) (w .n) (w .layout .grid) k p (w .square) (w .right) (w .outside) (rw is (w .stays)) _ (squareStores l₂ u₄ d₃ (z .rightSide)) all-done (beyond beyond-asks))
-              (rights ∙ right-exchanged (w .right) (w .n) k p (z .rightSide) (w .shows .rights) (w .low) p-above p-last))
+        pub whole : (u₃ d₃ x₁ : List Float)
+            → ((a : BehindAsks (partOf start end (uppers .subs)) start first t p uppers u₂ d₁) → BehindLeaves (partOf start end (uppers .subs)) start first t p uppers u₂ d₁ u₃ d₃ a)
+            → x₁ ≡ set (set (z .rightSide) (k - 1) (getD (z .rightSide) (p - 1) nan)) (p - 1) (getD (z .rightSide) (k - 1) nan)
+            → ExchangeLeaves k place stores z (squareStores l₂ u₃ d₃ x₁) w
+        whole u₃ d₃ x₁ behind rights =
+            rw (← is)
+            (with-right (w .s) (w .n) (w .p .height) _ (w .right) _ l₂ u₃ d₃ (z .rightSide) x₁
+            (exchange-done (w .s) (w .n) (w .p .height) (w .layout .grid) k p (w .square) (w .right) (w .outside) (rw is (w .stays)) _ (squareStores l₂ u₃ d₃ (z .rightSide))
+            (omega (arith, us-size start end first past row)) (behind behind-asks))
+            (rights ∙ right-exchanged (w .right) (w .p .height) k p (z .rightSide) (w .shows .rights) (w .low) p-above p-last))

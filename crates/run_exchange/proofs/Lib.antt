@@ -1,3 +1,4 @@
 -- Laws of the exchange.
+pub mod Behind
 pub mod Rights
 pub mod Assembly

@@ -29,22 +29,22 @@ use Rattle.run_swap.specs.Swapping.{columnsOf, Swapped}
 use Rattle.run_swap.proofs.Puts.{shows-all-same}
 
 -- two places of the right side changed are two rows exchanged
-pub right-exchanged : (right : ℕ → Float) (n k p : ℕ) (x : List Float) → x ≡ map right (upto n) → 1 ≤ k → k < p → p ≤ n
-    → set (set x (k - 1) (getD x (p - 1) nan)) (p - 1) (getD x (k - 1) nan) ≡ map (exchangedRight k p right) (upto n)
+pub right-exchanged : (right : ℕ → Float) (height k p : ℕ) (x : List Float) → x ≡ map right (upto height) → 1 ≤ k → k < p → p ≤ height
+    → set (set x (k - 1) (getD x (p - 1) nan)) (p - 1) (getD x (k - 1) nan) ≡ map (exchangedRight k p right) (upto height)
 unfolding exchangedRight swap
-right-exchanged right n k p x e low below high =
-    let a : getD x (p - 1) nan ≡ right p = rw e (map-upto-at right n p nan (omega arith) high) in
-    let b : getD x (k - 1) nan ≡ right k = rw e (map-upto-at right n k nan low (omega arith)) in
-    let first : set x (k - 1) (right p) ≡ map (update right k (right p)) (upto n) =
-    rw e (map-upto-set right (update right k (right p)) n k (right p) low (omega arith) (update-same right k (right p)) (λ y ne. update-other right k (right p) y ne)) in
-    rw (a, b, first) (map-upto-set (update right k (right p)) (exchangedRight k p right) n p (right k) (omega arith) high
+right-exchanged right height k p x e low below high =
+    let a : getD x (p - 1) nan ≡ right p = rw e (map-upto-at right height p nan (omega arith) high) in
+    let b : getD x (k - 1) nan ≡ right k = rw e (map-upto-at right height k nan low (omega arith)) in
+    let first : set x (k - 1) (right p) ≡ map (update right k (right p)) (upto height) =
+    rw e (map-upto-set right (update right k (right p)) height k (right p) low (omega arith) (update-same right k (right p)) (λ y ne. update-other right k (right p) y ne)) in
+    rw (a, b, first) (map-upto-set (update right k (right p)) (exchangedRight k p right) height p (right k) (omega arith) high
     (rw (ne-eqb p k (λ q. omega arith), eq-eqb p p refl))
     (λ y ne. by-test (eqb y k)
     (λ f. let q : y ≡ k = eqb-true y k f in rw (q, eq-eqb k k refl) (sym (update-same right k (right p))))
     (λ f. rw (f, ne-eqb y p ne) (sym (update-other right k (right p) y (eqb-false y k f))))))
 
 -- Columns that U_k lacks hold +0 in both rows, so once U_k's are done all are.
-module _ (s : Planning) (n : ℕ) (grid : Grid s n) (k p : ℕ) (square : Square Float) (right : ℕ → Float)
+module _ (s : Planning) (n height : ℕ) (grid : Grid s n height) (k p : ℕ) (square : Square Float) (right : ℕ → Float)
     (outside : (i j : ℕ) → hasSlot s i j ≡ false → square i j ≡ plusZero) (stays : (i j : ℕ) → hasSlot s i j ≡ false → exchanged k p square i j ≡ plusZero) where
   other-column : (i j : ℕ) → k < j → member j (kept s upper k) ≡ false → exchanged k p square i j ≡ square i j
   other-column i j l m =
@@ -69,5 +69,5 @@ module _ (s : Planning) (n : ℕ) (grid : Grid s n) (k p : ℕ) (square : Square
       let ge = ltb-false j k l in
       other-column i j (omega arith) (fails (member j (kept s upper k)) (λ m. true≢false (sym (member-tail j k (kept s upper k) m) ∙ e))))))
 
-  pub exchange-done : (t : ℕ) (z : SquareStores) → length (kept s upper k) ≤ t → Swapped s n k p t square right z → ShowsAll s n (exchanged k p square) right z
-  exchange-done t z past h = shows-all-same s n _ right z (rw (take-all t (kept s upper k) past) at (h .shows)) (exchanged k p square) all-columns
+  pub exchange-done : (t : ℕ) (z : SquareStores) → length (kept s upper k) ≤ t → Swapped s n height k p t square right z → ShowsAll s n height (exchanged k p square) right z
+  exchange-done t z past h = shows-all-same s n height _ right z (rw (take-all t (kept s upper k) past) at (h .shows)) (exchanged k p square) all-columns

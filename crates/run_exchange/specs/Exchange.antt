@@ -28,12 +28,13 @@ pub record ExchangeAsks (k place : ℕ) (q : PlanStores) (z : SquareStores) : Ty
   pub right : ℕ → Float
   pub layout : Layout p s n q
   pub low : 1 ≤ k
+  pub high : k ≤ n
   pub inside : place < length (kept s lower k)
-  pub shows : ShowsAll s n square right z
+  pub shows : ShowsAll s n (p .height) square right z
   pub outside : (i j : ℕ) → hasSlot s i j ≡ false → square i j ≡ plusZero
   pub stays : (i j : ℕ) → hasSlot s i j ≡ false → exchanged k (rowAt s k place) square i j ≡ plusZero
 
 -- Document 01, "Elimination": "Rows k and p are exchanged in columns k to n and in the right side; earlier multipliers are not moved."
 abbrev pub ExchangeLeaves : (k place : ℕ) (q : PlanStores) (z z′ : SquareStores) → ExchangeAsks k place q z → Type 0
 ExchangeLeaves k place q z z′ w =
-    ShowsAll (w .s) (w .n) (exchanged k (rowAt (w .s) k place) (w .square)) (exchangedRight k (rowAt (w .s) k place) (w .right)) z′
+    ShowsAll (w .s) (w .n) (w .p .height) (exchanged k (rowAt (w .s) k place) (w .square)) (exchangedRight k (rowAt (w .s) k place) (w .right)) z′

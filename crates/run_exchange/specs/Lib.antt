@@ -1,2 +1,3 @@
--- What the contract of the exchange cites.
+-- What the contracts of the exchange cite.
+pub mod Behind
 pub mod Exchange

@@ -14,9 +14,9 @@ use Rattle.foundation.specs.Answer.{Answer, refused, granted, andThen}
 use Rattle.foundation.specs.Numbers.{finite}
 use Rattle.foundation.specs.Pattern.{Lent, Pattern, patternOf}
 use Rattle.foundation.specs.Plan.{Planning, plan}
-use Rattle.foundation.specs.PlanCall.{WorkSizes, held}
+use Rattle.foundation.specs.PlanCall.{WorkSizes, heldIf}
 use Rattle.foundation.specs.Reference.{Choice, Extent}
-use Rattle.foundation.specs.RunCall.{Lending, lendingFits, allFinite, rowsInRange, choiceFits, extentFits, orderFits}
+use Rattle.foundation.specs.RunCall.{Lending, lendingFits, allFinite, rowsInRange, choiceFits, extentFits, orderFits, mayRun}
 use Rattle.answers.specs.Answers.{verifyAnswer}
 use Rattle.answers.specs.declared.VerifyAnswer.{VerifyAnswer}
 use Rattle.answers.specs.Runs.{chosenBy, reasonNumber, extentOf}
@@ -34,20 +34,30 @@ use Rattle.run_judge.proofs.Verified.{Verified, held-is, verified-from,
 
 -- ---- refusal 6, of the two f64 stores
 
-pub floats-first : (n copy dense : ℕ) → (copy ≡ n → ⊥) → false ≡ floatsFit n copy dense
+pub floats-first : (height copy dense : ℕ) → (copy ≡ height → ⊥) → false ≡ floatsFit height copy dense
 unfolding floatsFit
-floats-first n copy dense h = rw (ne-eqb n copy (λ e. h (sym e)))
+floats-first height copy dense h = rw (ne-eqb height copy (λ e. h (sym e)))
 
-pub floats-none : (n copy dense : ℕ) → dense ≡ 0 → false ≡ floatsFit n copy dense
+pub floats-none : (height copy dense : ℕ) → dense ≡ 0 → false ≡ floatsFit height copy dense
 unfolding floatsFit
-floats-none n copy dense h = by-test (eqb n copy) (λ e. rw (e, ne-eqb (suc n) dense (λ q. omega arith))) (λ e. rw e)
+floats-none height copy dense h = by-test (eqb height copy) (λ e. rw (e, ne-eqb (suc height) dense (λ q. omega arith))) (λ e. rw e)
 
-pub floats-second : (n copy dense : ℕ) → copy ≡ n → (dense ≡ 0 → ⊥) → eqb (dense - 1) n ≡ floatsFit n copy dense
+pub floats-second : (height copy dense : ℕ) → copy ≡ height → (dense ≡ 0 → ⊥) → eqb (dense - 1) height ≡ floatsFit height copy dense
 unfolding floatsFit
-floats-second n copy dense same some =
-    rw (eq-eqb n copy (sym same))
-    (same-test (eqb (dense - 1) n) (eqb (suc n) dense) (λ e. eq-eqb (suc n) dense (omega (arith, eqb-true (dense - 1) n e)))
-    (λ e. eq-eqb (dense - 1) n (omega (arith, eqb-true (suc n) dense e))))
+floats-second height copy dense same some =
+    rw (eq-eqb height copy (sym same))
+    (same-test (eqb (dense - 1) height) (eqb (suc height) dense) (λ e. eq-eqb (suc height) dense (omega (arith, eqb-true (dense - 1) height e)))
+    (λ e. eq-eqb (dense - 1) height (omega (arith, eqb-true (suc height) dense e))))
+
+-- ---- refusal 26
+
+pub may-whole : (e : RunExtent) (p : Lent) (n height : ℕ) → e ≡ Whole → p .n ≡ n → p .height ≡ height → leb height n ≡ mayRun p (extentOf e)
+unfolding mayRun extentOf
+may-whole e p n height is width tall = rw (is, width, tall)
+
+pub may-cut : (e : RunExtent) (p : Lent) (steps : ℕ) → e ≡ Cut steps → true ≡ mayRun p (extentOf e)
+unfolding mayRun extentOf
+may-cut e p steps is = rw is
 
 -- ---- refusal 12
 
@@ -59,10 +69,10 @@ pub list-long : (b : PivotChoice) (rows : List ℕ) (p : Pattern) (n : ℕ) → 
 unfolding choiceFits chosenBy
 list-long b rows p n e h width = rw (e, ne-eqb (length rows) (p .n) (λ q. h (q ∙ width)))
 
-pub list-range : (b : PivotChoice) (rows : List ℕ) (p : Pattern) (n : ℕ) (r : Bool) → b ≡ Listed → length rows ≡ n → p .n ≡ n → p .height ≡ n → r ≡ rowsInRange n 1 rows
+pub list-range : (b : PivotChoice) (rows : List ℕ) (p : Pattern) (n height : ℕ) (r : Bool) → b ≡ Listed → length rows ≡ n → p .n ≡ n → p .height ≡ height → r ≡ rowsInRange height 1 rows
     → r ≡ choiceFits p (chosenBy b rows)
 unfolding choiceFits chosenBy
-list-range b rows p n r e h width height is = rw (e, eq-eqb (length rows) (p .n) (h ∙ sym width)) (is ∙ ap (λ (m : ℕ). rowsInRange m 1 rows) (sym height))
+list-range b rows p n height r e h width tall is = rw (e, eq-eqb (length rows) (p .n) (h ∙ sym width)) (is ∙ ap (λ (m : ℕ). rowsInRange m 1 rows) (sym tall))
 
 pub cut-whole : (e : RunExtent) (p : Pattern) → e ≡ Whole → true ≡ extentFits p (extentOf e)
 unfolding extentFits extentOf
@@ -72,12 +82,12 @@ pub cut-steps : (e : RunExtent) (p : Pattern) (n steps : ℕ) → e ≡ Cut step
 unfolding extentFits extentOf
 cut-steps e p n steps is width = rw is (ap (leb steps) (sym width))
 
--- the pattern of a lent one has its n rows and columns
+-- the pattern of a lent one has its columns and rows
 pub pattern-width : (p : Lent) {n : ℕ} → p .n ≡ n → (patternOf p) .n ≡ n
 unfolding patternOf
 pattern-width p e = e
 
-pub pattern-height : (p : Lent) {n : ℕ} → p .n ≡ n → (patternOf p) .height ≡ n
+pub pattern-height : (p : Lent) {height : ℕ} → p .height ≡ height → (patternOf p) .height ≡ height
 unfolding patternOf
 pattern-height p e = e
 
@@ -89,46 +99,52 @@ unfolding verifyAnswer andThen
 refused-stays (refused m k) f number step e = e
 refused-stays (granted s) f number step e = let z : _≡_ {A = ℕ} 0 1 = cc in absurd (omega arith)
 
-module _ {verified : VerifyAnswer} {n entries lSlots uSlots : ℕ} (w : JudgeAsks verified n entries lSlots uSlots) (copy dense : ℕ) (choice : Choice) (extent : Extent) (lending : Lending) where
+module _ {verified : VerifyAnswer} {n height entries lSlots uSlots : ℕ} (w : JudgeAsks verified n height entries lSlots uSlots) (copy dense : ℕ) (choice : Choice) (extent : Extent) (lending : Lending) where
   abbrev work : WorkSizes
   work = withFloats (w .work) copy dense
 
   abbrev answer : Answer (Unit {0})
   answer = tested (w .most) (w .p) (w .q) work choice extent lending
 
-  judgement-is : (sized : Bool) (judged : Judgement) → sized ≡ floatsFit n copy dense → judged ≡ planJudgement verified sized → judgementOf judged ≡ verifyAnswer (held (w .most) (w .p) (w .q) work)
-  judgement-is sized judged fits is =
-      ap judgementOf is ∙ ap (λ (b : Bool). judgementOf (planJudgement verified b)) (fits ∙ ap (λ (m : ℕ). floatsFit m copy dense) (sym (w .width)))
-      ∙ judgement-held (w .most) (w .p) (w .q) (w .work) verified copy dense (w .answered)
+  -- planning's answer about the plan, 26 counted in
+  abbrev planned : Answer Planning
+  planned = heldIf (mayRun (w .p) extent) (w .most) (w .p) (w .q) work
 
-  -- 1 to 6 and 9
-  pub test-plan : (sized : Bool) (judged : Judgement) (reason : RunReason) → sized ≡ floatsFit n copy dense → judged ≡ planJudgement verified sized → judged ≡ Refused reason
-      → judgementOf (Refused reason) ≡ answer
-  unfolding tested judgementOf
-  test-plan sized judged reason fits is refusal =
-      let closed : verifyAnswer (held (w .most) (w .p) (w .q) work) ≡ refused (reasonNumber reason) 0 = sym (judgement-is sized judged fits is) ∙ ap judgementOf refusal in
-      sym (refused-stays (held (w .most) (w .p) (w .q) work) _ (reasonNumber reason) 0 closed)
+  module _ (sized may : Bool) (judged : Judgement) (fits : sized ≡ floatsFit height copy dense) (runs : may ≡ mayRun (w .p) extent) (is : judged ≡ planJudgement verified sized may) where
+    judgement-is : judgementOf judged ≡ verifyAnswer planned
+    judgement-is =
+        ap judgementOf (is ∙ ap (λ (b : Bool). planJudgement verified b may) (fits ∙ ap (λ (m : ℕ). floatsFit m copy dense) (sym (w .tall-is))))
+        ∙ judgement-held (w .most) (w .p) (w .q) (w .work) verified copy dense may (w .answered)
+        ∙ ap (λ (b : Bool). verifyAnswer (heldIf b (w .most) (w .p) (w .q) work)) runs
 
-  pub test-verified : (sized : Bool) (judged : Judgement) → sized ≡ floatsFit n copy dense → judged ≡ planJudgement verified sized → judged ≡ MayRun → Verified (w .most) (w .p) (w .q) work
-  unfolding judgementOf
-  test-verified sized judged fits is may = verified-from (w .most) (w .p) (w .q) work (sym (judgement-is sized judged fits is) ∙ ap judgementOf may)
+    -- 1, 25, 2 to 6, 26 and 9
+    pub test-plan : (reason : RunReason) → judged ≡ Refused reason → judgementOf (Refused reason) ≡ answer
+    unfolding tested judgementOf
+    test-plan reason refusal =
+        let closed : verifyAnswer planned ≡ refused (reasonNumber reason) 0 = sym judgement-is ∙ ap judgementOf refusal in
+        sym (refused-stays planned _ (reasonNumber reason) 0 closed)
 
-  module _ (v : Verified (w .most) (w .p) (w .q) work) where
+    pub test-verified : judged ≡ MayRun → Verified (mayRun (w .p) extent) (w .most) (w .p) (w .q) work
+    unfolding judgementOf
+    test-verified passed = verified-from _ (w .most) (w .p) (w .q) work (sym judgement-is ∙ ap judgementOf passed)
+
+  module _ (v : Verified (mayRun (w .p) extent) (w .most) (w .p) (w .q) work) where
     abbrev s : Planning
     s = plan (patternOf (w .p))
 
     answer-is : answer ≡ inOrder (lendingFits (w .p) s lending) (allFinite lending) (orderFits (patternOf (w .p)) choice extent)
     unfolding tested andThen
-    answer-is = rw (held-is (w .most) (w .p) (w .q) work v)
+    answer-is = rw (held-is (mayRun (w .p) extent) (w .most) (w .p) (w .q) work v)
 
     -- the numbers that 10 goes by
     pub lending-sizes : {values right solution pivots diagonal lPlaces uPlaces : ℕ} → length (lending .values) ≡ values → length (lending .right) ≡ right → lending .solution ≡ solution
         → lending .pivots ≡ pivots → lending .diagonal ≡ diagonal → lending .lowerSlots ≡ lPlaces → lending .upperSlots ≡ uPlaces
-        → Sizes (w .p) s lending n entries values right solution pivots diagonal lPlaces uPlaces lSlots uSlots
+        → Sizes (w .p) s lending n height entries values right solution pivots diagonal lPlaces uPlaces lSlots uSlots
     lending-sizes a b c d e f g =
-        let counted = slots-counted (w .most) (w .p) (w .q) work v in
+        let counted = slots-counted (mayRun (w .p) extent) (w .most) (w .p) (w .q) work v in
         record {
           width = w .width;
+          tall-is = w .tall-is;
           entries-are = w .entries-are;
           values-are = a;
           right-are = b;

@@ -8,8 +8,9 @@ use Rattle.foundation.specs.RunCall.{Lending}
 use Rattle.foundation.specs.Slots.{slotsOf}
 
 -- the sizes of a pattern, of what is lent with it and of its plan
-pub record Sizes (p : Lent) (s : Planning) (w : Lending) (n entries values right solution pivots diagonal lowerPlaces upperPlaces lowerSlots upperSlots : ℕ) : Type 0 where
+pub record Sizes (p : Lent) (s : Planning) (w : Lending) (n height entries values right solution pivots diagonal lowerPlaces upperPlaces lowerSlots upperSlots : ℕ) : Type 0 where
   pub width : p .n ≡ n
+  pub tall-is : p .height ≡ height
   pub entries-are : length (p .columns) ≡ entries
   pub values-are : length (w .values) ≡ values
   pub right-are : length (w .right) ≡ right

@@ -7,10 +7,11 @@ ghost use Rattle.foundation.specs.Plan.{Planning};
 ghost use Rattle.foundation.specs.RunCall.{Lending, lendingFits, rowsInRange};
 ghost use Rattle.run_judge.specs.Sizes.{Sizes};
 
-// Refusal 10, on numbers alone: values are as many as entries, right side, solution, pivot rows and diagonal have n places, and the slots are no
-// fewer than planned.
+// Refusal 10, on numbers alone: values are as many as entries, right side and solution have a place for each row, pivot rows and diagonal n places, and
+// the slots are no fewer than planned.
 pub fn lending_fits(
     n: usize,
+    height: usize,
     entries: usize,
     values: usize,
     right: usize,
@@ -22,15 +23,15 @@ pub fn lending_fits(
     l_planned: usize,
     u_planned: usize,
 ) -> bool
-    ensures { λ r. ⌜ ((p : Lent) (s : Planning) (w : Lending) → Sizes p s w n entries values right solution pivots diagonal «l_places» «u_places» «l_planned» «u_planned» → r ≡ lendingFits p s w) ⌝ }
+    ensures { λ r. ⌜ ((p : Lent) (s : Planning) (w : Lending) → Sizes p s w n height entries values right solution pivots diagonal «l_places» «u_places» «l_planned» «u_planned» → r ≡ lendingFits p s w) ⌝ }
 {
     if values != entries {
         return false;
     }
-    if right != n {
+    if right != height {
         return false;
     }
-    if solution != n {
+    if solution != height {
         return false;
     }
     if pivots != n {
@@ -60,9 +61,9 @@ pub fn all_finite(values: &[f64]) -> bool
     true
 }
 
-// Refusal 12, of the rows: whether p_k is from k to n at every step k.
-pub fn rows_in_range(n: usize, rows: &[usize]) -> bool
-    ensures { λ r. ⌜ r ≡ rowsInRange n 1 (now (rows .entry)) ⌝ }
+// Refusal 12, of the rows: whether p_k is from k to the row count at every step k.
+pub fn rows_in_range(height: usize, rows: &[usize]) -> bool
+    ensures { λ r. ⌜ r ≡ rowsInRange height 1 (now (rows .entry)) ⌝ }
 {
     let mut k = 0;
     while k < rows.len() {
@@ -71,7 +72,7 @@ pub fn rows_in_range(n: usize, rows: &[usize]) -> bool
         if row < k {
             return false;
         }
-        if n < row {
+        if height < row {
             return false;
         }
     }

@@ -45,6 +45,10 @@ module _ (i : ℕ) (columns : List ℕ) (values : List Float) (stores : PlanStor
     from-one : 1 ≤ j
     from-one = member-low j 1 columns (w .ascends) listed
 
+    -- a row with a column from its diagonal on is not above n
+    at-most : i ≤ j → i ≤ w .n
+    at-most before = omega (arith, w .bounded j listed)
+
     -- what an entry before the diagonal asks of its slot, and one behind it
     pub row-lower-asks : j < i → SlotAsks (stores .lowerSide) j i
     row-lower-asks apart = record {
@@ -64,7 +68,7 @@ module _ (i : ℕ) (columns : List ℕ) (values : List Float) (stores : PlanStor
       n = w .n;
       index = w .upper-index;
       low = w .low;
-      high = w .high;
+      high = at-most (omega arith);
       has = w .upper-slot j listed apart;
     }
 
@@ -97,17 +101,17 @@ module _ (i : ℕ) (columns : List ℕ) (values : List Float) (stores : PlanStor
           pub row-upper-inside : to < length u
           row-upper-inside =
               rw upper-is (slot-inside (w .s) upper (w .n) (loadedTo (w .target) i (take q columns)) (loadedTo (w .target) i (take q columns)) u (h .uppers) i j
-              (w .low) (w .high) (i + 1) (ascends upper i) (w .upper-slot j listed apart))
+              (w .low) (at-most (omega arith)) (i + 1) (ascends upper i) (w .upper-slot j listed apart))
 
           pub row-upper : Loaded (w .s) (w .n) (w .target) i (take (q + 1) columns) l (set u to (getD values q nan)) d
           row-upper = onward _ _ _ (rw upper-is (into-upper (w .s) (w .n) (w .target) i j (take q columns) l u d ascends h (getD values q nan) (w .entries q inside)
-              apart (w .low) (w .high) (w .upper-slot j listed apart)))
+              apart (w .low) (at-most (omega arith)) (w .upper-slot j listed apart)))
 
-      pub row-diagonal-inside : i - 1 < length d
-      row-diagonal-inside = omega (arith, w .low, w .high, h .size)
+      pub row-diagonal-inside : i ≤ j → i - 1 < length d
+      row-diagonal-inside before = omega (arith, w .low, at-most before, h .size)
 
       pub row-diagonal : i ≤ j → j ≤ i → Loaded (w .s) (w .n) (w .target) i (take (q + 1) columns) l u (set d (i - 1) (getD values q nan))
-      row-diagonal a b = onward _ _ _ (into-diagonal (w .s) (w .n) (w .target) i j (take q columns) l u d ascends h (getD values q nan) (w .entries q inside) (omega arith) (w .low) (w .high))
+      row-diagonal a b = onward _ _ _ (into-diagonal (w .s) (w .n) (w .target) i j (take q columns) l u d ascends h (getD values q nan) (w .entries q inside) (omega arith) (w .low) (at-most a))
 
   -- all columns are done
   pub row-end : (q : ℕ) (l u d : List Float) → length columns ≤ q → Loaded (w .s) (w .n) (w .target) i (take q columns) l u d → Loaded (w .s) (w .n) (w .target) i columns l u d
@@ -141,11 +145,12 @@ module _ (s : Planning) (n : ℕ) (target : Square Float) (i : ℕ) (columns : L
         own : (c : ℕ) → target i c ≡ cond (member c columns) (target i c) plusZero
         own c = by-test (member c columns) (λ m. rw m) (λ m. rw m (absent c m))
 
-    pub row-next : member i columns ≡ true → Loaded s n target (suc i) [] l u d
+    -- a row up to n has its diagonal
+    pub row-next : (i ≤ n → member i columns ≡ true) → Loaded s n target (suc i) [] l u d
     unfolding atSide
     row-next own = record {
       lowers = shows-same s lower n (loadedTo target i columns) l (h .lowers) (loadedTo target (suc i) []) (λ k x a b m. next-square x k);
       uppers = shows-same s upper n (loadedTo target i columns) u (h .uppers) (loadedTo target (suc i) []) (λ k x a b m. next-square k x);
       size = h .size;
-      diagonal = λ a low high r. h .diagonal a low high (next-reached a a (λ q. rw q own) r);
+      diagonal = λ a low high r. h .diagonal a low high (next-reached a a (λ q. rw q (own (omega arith))) r);
     }

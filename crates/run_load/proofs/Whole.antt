@@ -31,7 +31,7 @@ use Rattle.foundation.proofs.Containment.{held-at-start, contained}
 use Rattle.foundation.proofs.FreeSteps.{columns-from-one}
 use Rattle.foundation.proofs.LaidBack.{slots-shown, shown-none, shown-next}
 use Rattle.run_slots.specs.Handing.{LoadAsks, Clear}
-use Rattle.run_slots.specs.Index.{Grid}
+use Rattle.run_slots.specs.Index.{limit}
 use Rattle.run_slots.specs.Shows.{Shows, SquareStores, squareStores, ShowsAll}
 use Rattle.run_slots.proofs.Grid.{slot-upper, slot-lower, above}
 use Rattle.run_slots.proofs.Shows.{shows-same}
@@ -74,10 +74,10 @@ unreached : (target : Square Float) (a b : ℕ) → 1 ≤ a → loadedTo target 
 unfolding loadedTo reached member
 unreached target a b low = rw (le-ltb a 1 low) (by-test (eqb a 1) (λ e. rw e) (λ e. rw e))
 
--- behind row n every place of it has
-all-reached : (target : Square Float) (n a b : ℕ) → a ≤ n → loadedTo target (suc n) [] a b ≡ target a b
+-- behind the last row every place of it has
+all-reached : (target : Square Float) (height a b : ℕ) → a ≤ height → loadedTo target (suc height) [] a b ≡ target a b
 unfolding loadedTo reached
-all-reached target n a b high = rw (lt-ltb a (suc n) (omega arith))
+all-reached target height a b high = rw (lt-ltb a (suc height) (omega arith))
 
 -- a place that a list has may be read with any number for those that it has not
 read-any : (xs : List Float) (k : ℕ) (y z : Float) → k < length xs → getD xs k y ≡ getD xs k z
@@ -89,15 +89,15 @@ right-read : (right : List Float) (k : ℕ) → k < length right → getD right 
 unfolding rightAt
 right-read right k inside = read-any right k nan plusZero inside
 
-reached-before : (n a b : ℕ) → a ≤ n → reached (suc n) [] a b ≡ true
+reached-before : (height a b : ℕ) → a ≤ height → reached (suc height) [] a b ≡ true
 unfolding reached
-reached-before n a b high = rw (lt-ltb a (suc n) (omega arith))
+reached-before height a b high = rw (lt-ltb a (suc height) (omega arith))
 
-diagonal-read : (s : Planning) (n : ℕ) (target : Square Float) (l u d : List Float) → Loaded s n target (suc n) [] l u d
+diagonal-read : (s : Planning) (n height : ℕ) (target : Square Float) (l u d : List Float) → n ≤ height → Loaded s n target (suc height) [] l u d
     → (k : ℕ) → k < n → getD d k nan ≡ target (suc k) (suc k)
-diagonal-read s n target l u d h k inside =
+diagonal-read s n height target l u d tall h k inside =
     let e : suc k - 1 ≡ k = omega arith in
-    rw e at (h .diagonal (suc k) (omega arith) (omega arith) (reached-before n (suc k) (suc k) (omega arith)))
+    rw e at (h .diagonal (suc k) (omega arith) (omega arith) (reached-before height (suc k) (suc k) (omega arith)))
 
 -- What the code asks of the numbers of the row behind place i, each fact as it asks it.
 pub record LineLends (starts columns : List ℕ) (values : List Float) (i : ℕ) : Type 0 where
@@ -111,8 +111,8 @@ pub record LineLends (starts columns : List ℕ) (values : List Float) (i : ℕ)
   pub in-columns : getD starts (i + 1) 0 ≤ length columns
   pub in-values : getD starts (i + 1) 0 ≤ length values
 
-pub line-lends : {n i : ℕ} (starts columns : List ℕ) (values : List Float) → i < n
-    → (length starts ≡ n + 1) × (getD starts i 0 ≤ getD starts (i + 1) 0) × (getD starts (i + 1) 0 ≤ length columns) × (getD starts (i + 1) 0 ≤ length values)
+pub line-lends : {height i : ℕ} (starts columns : List ℕ) (values : List Float) → i < height
+    → (length starts ≡ height + 1) × (getD starts i 0 ≤ getD starts (i + 1) 0) × (getD starts (i + 1) 0 ≤ length columns) × (getD starts (i + 1) 0 ≤ length values)
     → length starts * 8 < 2 ^ 63 → length columns * 8 < 2 ^ 63 → LineLends starts columns values i
 line-lends starts columns values inside (size, rises, in-columns, in-values) starts-room columns-room =
     record {
@@ -135,15 +135,18 @@ module _ (p : Lent) (values right : List Float) (stores : PlanStores) (z : Squar
   abbrev n : ℕ
   n = p .n
 
+  abbrev height : ℕ
+  height = p .height
+
   -- the square before the first step
   abbrev pub target : Square Float
   target = placed (patternOf p) plusZero (valueAt p values)
 
   pub all-start : Loaded (w .s) n target (0 + 1) [] (z .lowerSlots) (z .upperSlots) (z .diagonal)
-  unfolding atSide reached member
+  unfolding atSide reached member patternOf
   all-start = record {
     lowers = shows-same (w .s) lower n (λ i j. plusZero) (z .lowerSlots) (blank-shows (w .s) lower n (z .lowerSlots) (w .l-size) (w .l-clear)) (loadedTo target 1 [])
-        (λ k x a b m. unreached target x k (omega (arith, above (w .s) n (w .layout .grid) lower k x m)));
+        (λ k x a b m. unreached target x k (omega (arith, above (w .s) n height (w .layout .grid) lower k x m)));
     uppers = shows-same (w .s) upper n (λ i j. plusZero) (z .upperSlots) (blank-shows (w .s) upper n (z .upperSlots) (w .u-size) (w .u-clear)) (loadedTo target 1 [])
         (λ k x a b m. unreached target k x a);
     size = w .d-size;
@@ -153,7 +156,7 @@ module _ (p : Lent) (values right : List Float) (stores : PlanStores) (z : Squar
       none : (a : ℕ) → 1 ≤ a → reached 1 [] a a ≡ true → ⊥
       none a low r = false≢true (sym (rw (le-ltb a 1 low) (by-test (eqb a 1) (λ e. rw e) (λ e. rw e))) ∙ r)
 
-  module _ (i : ℕ) (inside : i < n) where
+  module _ (i : ℕ) (inside : i < height) where
     abbrev from : ℕ
     from = getD (p .starts) i 0
 
@@ -163,14 +166,14 @@ module _ (p : Lent) (values right : List Float) (stores : PlanStores) (z : Squar
     row : List ℕ
     row = rowOf p (i + 1)
 
-    within : i + 1 ≤ n
+    within : i + 1 ≤ height
     within = rw (add-one i) inside
 
     lies : RowLies p (p .starts) (p .columns) i
     lies = row-lies p (w .starts-fit) i inside
 
     -- where the row lies in what is lent
-    pub line-lies : (length (p .starts) ≡ n + 1) × (from ≤ end) × (end ≤ length (p .columns)) × (end ≤ length values)
+    pub line-lies : (length (p .starts) ≡ height + 1) × (from ≤ end) × (end ≤ length (p .columns)) × (end ≤ length values)
     line-lies = (lies .starts-size, lies .ordered, lies .within, omega (arith, lies .within, w .values-size))
 
     ascends : Ascending 1 row
@@ -179,7 +182,7 @@ module _ (p : Lent) (values right : List Float) (stores : PlanStores) (z : Squar
 
     in-pattern : (j : ℕ) → present (patternOf p) (i + 1) j ≡ member j row
     unfolding row patternOf present
-    in-pattern j = rw (le-leb 1 (i + 1) (omega arith), le-leb (i + 1) n within)
+    in-pattern j = rw (le-leb 1 (i + 1) (omega arith), le-leb (i + 1) height within)
 
     slot : (j : ℕ) → member j row ≡ true → slotIn (w .s .L) (w .s .U) (i + 1) j ≡ true
     slot j m = present-slot (patternOf p) (w .s .L) (w .s .U) (w .layout .closed) (w .plannable) (i + 1) j (in-pattern j ∙ m)
@@ -212,7 +215,6 @@ module _ (p : Lent) (values right : List Float) (stores : PlanStores) (z : Squar
       n = n;
       target = target;
       low = omega arith;
-      high = omega arith;
       lower-index = w .layout .lowers;
       upper-index = w .layout .uppers;
       as-many = as-many;
@@ -239,20 +241,21 @@ module _ (p : Lent) (values right : List Float) (stores : PlanStores) (z : Squar
     line-leaves l u d l′ u′ d′ h leaves =
         let left : Loaded (w .s) n target (i + 1) row l′ u′ d′ = (rw (lies .is) at leaves) (asks l u d h) in
         rw (add-one (i + 1)) (row-next (w .s) n target (i + 1) row l′ u′ d′ left absent
-        (w .plannable .diagonal (i + 1) (omega arith) within))
+        (w .plannable .diagonal (i + 1) (omega arith)))
 
   -- all rows are loaded
-  pub all-end : (i : ℕ) (l u d x : List Float) → n ≤ i → i ≤ n → Loaded (w .s) n target (i + 1) [] l u d → x ≡ right
-      → ShowsAll (w .s) n target (rightAt right) (squareStores l u d x)
-  unfolding atSide shownDiagonal upto
+  pub all-end : (i : ℕ) (l u d x : List Float) → height ≤ i → i ≤ height → Loaded (w .s) n target (i + 1) [] l u d → x ≡ right
+      → ShowsAll (w .s) n height target (rightAt right) (squareStores l u d x)
+  unfolding atSide shownDiagonal upto patternOf limit
   all-end i l u d x low high h e =
-      let same : i + 1 ≡ suc n = omega arith in
-      let g : Loaded (w .s) n target (suc n) [] l u d = rw same at h in
+      let same : i + 1 ≡ suc height = omega arith in
+      let g : Loaded (w .s) n target (suc height) [] l u d = rw same at h in
+      let tall : n ≤ height = w .layout .tall in
       record {
-        lowers = shows-same (w .s) lower n (loadedTo target (suc n) []) l (g .lowers) target (λ k y a b m. sym (all-reached target n y k (w .layout .grid .bounded lower k y m)));
-        uppers = shows-same (w .s) upper n (loadedTo target (suc n) []) u (g .uppers) target (λ k y a b m. sym (all-reached target n k y b));
+        lowers = shows-same (w .s) lower n (loadedTo target (suc height) []) l (g .lowers) target (λ k y a b m. sym (all-reached target height y k (w .layout .grid .bounded lower k y m)));
+        uppers = shows-same (w .s) upper n (loadedTo target (suc height) []) u (g .uppers) target (λ k y a b m. sym (all-reached target height k y (omega arith)));
         diagonal = ext-getD nan d (map (λ k. target k k) (run 1 n)) (g .size ∙ sym (length-map-run (λ k. target k k) 1 n))
-            (λ k inside. diagonal-read (w .s) n target l u d g k (omega (arith, g .size)) ∙ sym (getD-map-run (λ k. target k k) 1 n k nan (omega (arith, g .size)) ∙ rw (one-add k)));
-        rights = e ∙ ext-getD nan right (map (rightAt right) (run 1 n)) (w .right-size ∙ sym (length-map-run (rightAt right) 1 n))
-            (λ k inside. right-read right k (omega arith) ∙ sym (getD-map-run (rightAt right) 1 n k nan (omega (arith, w .right-size)) ∙ rw (one-add k)));
+            (λ k inside. diagonal-read (w .s) n height target l u d tall g k (omega (arith, g .size)) ∙ sym (getD-map-run (λ k. target k k) 1 n k nan (omega (arith, g .size)) ∙ rw (one-add k)));
+        rights = e ∙ ext-getD nan right (map (rightAt right) (run 1 height)) (w .right-size ∙ sym (length-map-run (rightAt right) 1 height))
+            (λ k inside. right-read right k (omega arith) ∙ sym (getD-map-run (rightAt right) 1 height k nan (omega (arith, w .right-size)) ∙ rw (one-add k)));
       }

@@ -30,13 +30,12 @@ pub record Loaded (s : Planning) (n : ℕ) (target : Square Float) (i : ℕ) (do
   pub size : length d ≡ n
   pub diagonal : (a : ℕ) → 1 ≤ a → a ≤ n → reached i done a a ≡ true → getD d (a - 1) nan ≡ target a a
 
--- The rows before i are loaded; row i's columns have their slots, and its values are the square's.
+-- The rows before i are loaded; row i's columns have their slots, and its values are the square's. Of a row above n every column lies before i.
 pub record RowAsks (i : ℕ) (columns : List ℕ) (values : List Float) (stores : PlanStores) (l u d : List Float) : Type 0 where
   pub s : Planning
   pub n : ℕ
   pub target : Square Float
   pub low : 1 ≤ i
-  pub high : i ≤ n
   pub lower-index : Indexed s lower n (stores .lowerSide)
   pub upper-index : Indexed s upper n (stores .upperSide)
   pub as-many : length values ≡ length columns

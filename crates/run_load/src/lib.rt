@@ -66,9 +66,10 @@ fn load_row(
     }
 }
 
-// The square and the right side before the first step, in stores whose slots are +0 throughout.
+// The square and the right side before the first step, `height` rows of each, in stores whose slots are +0 throughout.
 pub fn load(
     n: usize,
+    height: usize,
     starts: &[usize],
     columns: &[usize],
     values: &[f64],
@@ -84,16 +85,16 @@ pub fn load(
     d: &mut [f64],
     x: &mut [f64],
 )
-    requires { ⌜ LoadAsks (lent n (now starts) (now columns)) (now values) (now right)
+    requires { ⌜ LoadAsks (lent n height (now starts) (now columns)) (now values) (now right)
         (planStores (now «l_subs») (now «l_starts») (now «l_slots») (now «u_subs») (now «u_starts») (now «u_slots»)) (squareStores (now l) (now u) (now d) (now x)) ⌝ }
-    ensures { λ r. ⌜ ((w : LoadAsks (lent n (now (starts .entry)) (now (columns .entry))) (now (values .entry)) (now (right .entry))
+    ensures { λ r. ⌜ ((w : LoadAsks (lent n height (now (starts .entry)) (now (columns .entry))) (now (values .entry)) (now (right .entry))
         (planStores (now («l_subs» .entry)) (now («l_starts» .entry)) (now («l_slots» .entry)) (now («u_subs» .entry)) (now («u_starts» .entry)) (now («u_slots» .entry)))
         (squareStores (now (l .entry)) (now (u .entry)) (now (d .entry)) (now (x .entry))))
         → LoadLeaves _ _ _ _ _ (squareStores (now (l .exit)) (now (u .exit)) (now (d .exit)) (now (x .exit))) w) ⌝ }
 {
     copy_in(x, right);
     let mut i = 0;
-    while i < n {
+    while i < height {
         let from = starts[i];
         i += 1;
         let end = starts[i];

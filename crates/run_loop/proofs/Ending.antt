@@ -1,11 +1,11 @@
 -- The end of a run, case by case: stopped in its steps, cut, solved, or stopped in back substitution.
 use mathlib.Core.Bool.{true, false, true≢false, false≢true}
 use mathlib.Core.List.{List}
-use mathlib.Core.Path.{_≡_, refl, _∙_}
+use mathlib.Core.Path.{_≡_, refl}
 use Prim.Native.Nat.{ℕ}
 use lib.Ieee.{Float}
 use Rattle.foundation.specs.PlanCall.{SideStores}
-use Rattle.foundation.specs.Reference.{Course, going, notFinite, ended, solved}
+use Rattle.foundation.specs.Reference.{whole, cut, notFinite, solved}
 use Rattle.answers.specs.Runs.{extentOf}
 use Rattle.answers.specs.declared.Extent.{Extent}
 use Rattle.answers.specs.declared.Extent.the-variants.{Whole, Cut}
@@ -18,41 +18,41 @@ use Rattle.run_slots.specs.declared.SolveEnd.the-variants.{Solved, NotFiniteAt 
 use Rattle.run_request.specs.Asking.{isWhole}
 use Rattle.run_loop.specs.Running.{reasonOf, FinishAsks, FinishLeaves}
 
--- a cut run ends where its steps do, a whole one goes on
-ended-cut : (extent : Extent) (n : ℕ) (c : Course) → isWhole extent ≡ false → ended (extentOf extent) n c ≡ c
-unfolding isWhole ended extentOf
-ended-cut Whole n c e = absurd (true≢false e)
-ended-cut (Cut s) n c e = refl
+-- how far a run goes, by what its extent was found to be
+extent-cut : (extent : Extent) → isWhole extent ≡ false → (s : ℕ) × (extentOf extent ≡ cut s)
+unfolding isWhole extentOf
+extent-cut Whole e = absurd (true≢false e)
+extent-cut (Cut s) e = (s, refl)
 
-ended-whole : (extent : Extent) (n : ℕ) (c : Course) → isWhole extent ≡ true → ended (extentOf extent) n c ≡ solved n c
-unfolding isWhole ended extentOf
-ended-whole Whole n c e = refl
-ended-whole (Cut s) n c e = absurd (false≢true e)
+extent-whole : (extent : Extent) → isWhole extent ≡ true → extentOf extent ≡ whole
+unfolding isWhole extentOf
+extent-whole Whole e = refl
+extent-whole (Cut s) e = absurd (false≢true e)
 
 module _ (end : RunOutcome) (extent : Extent) (n : ℕ) (i : SideStores) (u d x : List Float) where
   -- a run that stopped stays so
-  pub stays-halted : {reason : RunReason} {k : ℕ} → end ≡ Stopped reason k → (w : FinishAsks end n i u d x) → FinishLeaves end (Stopped reason k) (extentOf extent) n i u d x x w
+  pub stays-halted : {reason : RunReason} {k : ℕ} → end ≡ Stopped reason k
+      → (w : FinishAsks end (extentOf extent) n i u d x) → FinishLeaves end (extentOf extent) (Stopped reason k) n i u d x x w
   stays-halted e = rw e (λ w. refl)
 
   module _ {updates : ℕ} (all : end ≡ Finished updates) where
-    -- a run that came through its steps may be solved
-    pub may-solve : FinishAsks end n i u d x → SolveAsks n i u d x
-    may-solve asks = rw all at asks
+    -- a cut run stays as it is
+    pub cut-ends : isWhole extent ≡ false → (w : FinishAsks end (extentOf extent) n i u d x) → FinishLeaves end (extentOf extent) (Finished updates) n i u d x x w
+    cut-ends e = let (s, is) = extent-cut extent e in rw (all, is) (λ w. (refl, refl))
 
-    -- a cut run is not
-    pub cut-ends : isWhole extent ≡ false → (w : FinishAsks end n i u d x) → FinishLeaves end (Finished updates) (extentOf extent) n i u d x x w
-    cut-ends e = rw all (λ w. (w .g, ended-cut extent n (going (w .g)) e, refl, w .rights))
+    module _ (e : isWhole extent ≡ true) where
+      -- a whole run that came through its steps may be solved
+      pub may-solve : FinishAsks end (extentOf extent) n i u d x → SolveAsks n i u d x
+      may-solve asks = rw (all, extent-whole extent e) at asks
 
-    -- a whole run is
-    pub solved-ends : {x′ : List Float} → isWhole extent ≡ true
-        → ((v : SolveAsks n i u d x) → SolveLeaves Solved n i u d x x′ v)
-        → (w : FinishAsks end n i u d x) → FinishLeaves end (Finished updates) (extentOf extent) n i u d x x′ w
-    unfolding solved
-    solved-ends e leaves = rw all (λ w. let (h, back, rights) = leaves w in (h, ended-whole extent n (going (w .g)) e ∙ back, refl, rights))
+      -- it is
+      pub solved-ends : {x′ : List Float} → ((v : SolveAsks n i u d x) → SolveLeaves Solved n i u d x x′ v)
+          → (w : FinishAsks end (extentOf extent) n i u d x) → FinishLeaves end (extentOf extent) (Finished updates) n i u d x x′ w
+      unfolding solved
+      solved-ends leaves = rw (all, extent-whole extent e) (λ w. let (h, back, rights) = leaves w in (h, back, refl, rights))
 
-    -- or stops at a row
-    pub unsolved-ends : (x′ : List Float) {k : ℕ} → isWhole extent ≡ true
-        → ((v : SolveAsks n i u d x) → SolveLeaves (UnsolvedAt k) n i u d x x′ v)
-        → (w : FinishAsks end n i u d x) → FinishLeaves end (Stopped NotFinite k) (extentOf extent) n i u d x x′ w
-    unfolding solved reasonOf
-    unsolved-ends x′ e leaves = rw all (λ w. record { why = notFinite; named = refl; course-is = ended-whole extent n (going (w .g)) e ∙ leaves w })
+      -- or stops at a row
+      pub unsolved-ends : (x′ : List Float) {k : ℕ} → ((v : SolveAsks n i u d x) → SolveLeaves (UnsolvedAt k) n i u d x x′ v)
+          → (w : FinishAsks end (extentOf extent) n i u d x) → FinishLeaves end (extentOf extent) (Stopped NotFinite k) n i u d x x′ w
+      unfolding solved reasonOf
+      unsolved-ends x′ leaves = rw (all, extent-whole extent e) (λ w. record { why = notFinite; named = refl; course-is = leaves w })

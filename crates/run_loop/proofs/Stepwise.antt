@@ -49,7 +49,7 @@ place-fits small = record { fits = omega arith }
 pub next-fits : {k : ℕ} → k ≤ 1024 → Fits w64 (k + 1)
 next-fits small = record { fits = omega arith }
 
-pub updates-fit : {k updates more : ℕ} → k ≤ 1024 → updates ≤ k * 1048576 → more ≤ 1048576 → Fits w64 (updates + more)
+pub updates-fit : {k updates more : ℕ} → k ≤ 1024 → updates ≤ k * 2097152 → more ≤ 2097152 → Fits w64 (updates + more)
 updates-fit small few more-few = record { fits = omega arith }
 
 -- the steps to come
@@ -59,11 +59,11 @@ steps-less high = omega arith
 -- ---- a step
 
 -- Step k is one of those asked for, the row is the one that the choice names, and the work stores have their lengths, the second +0 throughout.
-pub record Handed (n count : ℕ) (choice : Choice) (k row : ℕ) (copy dense : List Float) : Type 0 where
+pub record Handed (height count : ℕ) (choice : Choice) (k row : ℕ) (copy dense : List Float) : Type 0 where
   pub high : k ≤ count
   pub row-is : row ≡ asked choice k
-  pub copy-size : length copy ≡ n
-  pub dense-size : length dense ≡ n + 1
+  pub copy-size : length copy ≡ height
+  pub dense-size : length dense ≡ height + 1
   pub clear : Clear dense
 
 -- what is known of step k by its end, for every witness of what it took for granted
@@ -90,7 +90,7 @@ module _ {count : ℕ} {choice : Choice} {q : PlanStores} {results₀ : RunStore
   }
 
   module _ {k t row updates : ℕ} {results : RunStores} {copy dense : List Float} (here : At t updates results) (e : k ≡ suc t)
-      (handed : Handed (w .n) count choice k row copy dense) where
+      (handed : Handed (w .p .height) count choice k row copy dense) where
     -- what step k takes for granted
     pub step-asks : StepAsks k row q (squareIn results) copy dense
     step-asks = record {
@@ -116,13 +116,13 @@ module _ {count : ℕ} {choice : Choice} {q : PlanStores} {results₀ : RunStore
     unfolding stepped step-asks
     went {r} {more} {updates′} {results′} leaves added chosen =
         let after = leaves step-asks in
-        let row : pivotRow choice (w .n) k (λ i. (here .g .square) i k) ≡ r = after .1 in
-        let sound : soundWith (w .n) (w .n) k r (here .g) ≡ true = after .2 in
-        let taken : more ≡ updatesAt (w .n) (w .n) k (exchanged k r (here .g .square)) = after .3 in
-        let stands : Stands (w .p) (w .s) (w .n) (suc k) (stepped (w .n) (w .n) k r (here .g)) (squareIn results′) = after .5 in
+        let row : pivotRow choice (w .p .height) k (λ i. (here .g .square) i k) ≡ r = after .1 in
+        let sound : soundWith (w .p .height) (w .n) k r (here .g) ≡ true = after .2 in
+        let taken : more ≡ updatesAt (w .p .height) (w .n) k (exchanged k r (here .g .square)) = after .3 in
+        let stands : Stands (w .p) (w .s) (w .n) (suc k) (stepped (w .p .height) (w .n) k r (here .g)) (squareIn results′) = after .5 in
         record {
-          g = stepped (w .n) (w .n) (suc t) r (here .g);
-          course = goes-on choice (w .n) (w .n) (w .start) t r (here .g) (here .course) (rw e at row) (after .0) (rw e at sound);
+          g = stepped (w .p .height) (w .n) (suc t) r (here .g);
+          course = goes-on choice (w .p .height) (w .n) (w .start) t r (here .g) (here .course) (rw e at row) (after .0) (rw e at sound);
           counted = added ∙ ap (λ (a : ℕ). a + more) (here .counted) ∙ ap (λ (a : ℕ). here .g .updates + a) (rw e at taken);
           stands = rw e at stands;
           chosen = rw (length-append, here .chosen) (omega arith);
@@ -130,27 +130,27 @@ module _ {count : ℕ} {choice : Choice} {q : PlanStores} {results₀ : RunStore
         }
 
     -- it counts at most so many updates
-    pub went-few : {r more : ℕ} {z′ : SquareStores} → StepKnown k row q results copy dense (Went r more) z′ → more ≤ 1048576
+    pub went-few : {r more : ℕ} {z′ : SquareStores} → StepKnown k row q results copy dense (Went r more) z′ → more ≤ 2097152
     went-few leaves = leaves step-asks .4
 
     -- 13
-    pub lacked : StepKnown k row q results copy dense NoPivot (squareIn results) → running choice (w .n) (w .n) (w .start) count ≡ stopped noPivot k
+    pub lacked : StepKnown k row q results copy dense NoPivot (squareIn results) → running choice (w .p .height) (w .n) (w .start) count ≡ stopped noPivot k
     unfolding step-asks
     lacked leaves =
-        let none : pivotRow choice (w .n) k (λ i. (here .g .square) i k) ≡ 0 = leaves step-asks in
-        rw e (stays-stopped choice (w .n) (w .n) (w .start) noPivot (suc t) (suc t) count (omega (arith, handed .high))
-        (lacks-pivot choice (w .n) (w .n) (w .start) t (here .g) (here .course) (rw e at none)))
+        let none : pivotRow choice (w .p .height) k (λ i. (here .g .square) i k) ≡ 0 = leaves step-asks in
+        rw e (stays-stopped choice (w .p .height) (w .n) (w .start) noPivot (suc t) (suc t) count (omega (arith, handed .high))
+        (lacks-pivot choice (w .p .height) (w .n) (w .start) t (here .g) (here .course) (rw e at none)))
 
     -- 14
-    pub unsound : StepKnown k row q results copy dense NotFinite (squareIn results) → running choice (w .n) (w .n) (w .start) count ≡ stopped notFinite k
+    pub unsound : StepKnown k row q results copy dense NotFinite (squareIn results) → running choice (w .p .height) (w .n) (w .start) count ≡ stopped notFinite k
     unfolding step-asks
     unsound leaves = let after = leaves step-asks in at (after .0) (after .1) (after .2)
       where
-        at : (r : ℕ) → pivotRow choice (w .n) k (λ i. (here .g .square) i k) ≡ suc r → soundWith (w .n) (w .n) k (suc r) (here .g) ≡ false
-            → running choice (w .n) (w .n) (w .start) count ≡ stopped notFinite k
+        at : (r : ℕ) → pivotRow choice (w .p .height) k (λ i. (here .g .square) i k) ≡ suc r → soundWith (w .p .height) (w .n) k (suc r) (here .g) ≡ false
+            → running choice (w .p .height) (w .n) (w .start) count ≡ stopped notFinite k
         at r row bad =
-            rw e (stays-stopped choice (w .n) (w .n) (w .start) notFinite (suc t) (suc t) count (omega (arith, handed .high))
-            (not-sound choice (w .n) (w .n) (w .start) t r (here .g) (here .course) (rw e at row) (rw e at bad)))
+            rw e (stays-stopped choice (w .p .height) (w .n) (w .start) notFinite (suc t) (suc t) count (omega (arith, handed .high))
+            (not-sound choice (w .p .height) (w .n) (w .start) t r (here .g) (here .course) (rw e at row) (rw e at bad)))
 
 -- ---- the loop
 
@@ -159,7 +159,7 @@ pub record Underway (count : ℕ) (choice : Choice) (q : PlanStores) (results₀
     (results : RunStores) (copy dense : List Float) (updates k : ℕ) : Type 0 where
   pub low : 1 ≤ k
   pub high : k ≤ count + 1
-  pub few : updates ≤ k * 1048576
+  pub few : updates ≤ k * 2097152
   pub clear : Clear dense
   pub sizes : SameSizes results₀ results
   pub copy-size : length copy ≡ length copy₀
@@ -196,7 +196,7 @@ module _ {count : ℕ} {choice : Choice} {q : PlanStores} {results₀ : RunStore
     pub under-room : k ≤ count → k - 1 < length (results .pivots)
     under-room high = omega (arith, here .low, here .sizes .pivots-size, ap length (w .pivots-blank), length-replicate {A = ℕ} (w .n) 0, w .within)
 
-    pub handed : {row : ℕ} → k ≤ count → row ≡ asked choice k → Handed (w .n) count choice k row copy dense
+    pub handed : {row : ℕ} → k ≤ count → row ≡ asked choice k → Handed (w .p .height) count choice k row copy dense
     handed high row-is = record {
       high = high;
       row-is = row-is;
@@ -209,7 +209,7 @@ module _ {count : ℕ} {choice : Choice} {q : PlanStores} {results₀ : RunStore
       pub under-asks : StepAsks k row q (squareIn results) copy dense
       under-asks = step-asks w (here .at w) (one-back here) (handed high row-is)
 
-      pub under-few : {r more : ℕ} {z′ : SquareStores} → StepKnown k row q results copy dense (Went r more) z′ → more ≤ 1048576
+      pub under-few : {r more : ℕ} {z′ : SquareStores} → StepKnown k row q results copy dense (Went r more) z′ → more ≤ 2097152
       under-few leaves = went-few w (here .at w) (one-back here) (handed high row-is) leaves
 
 module _ {count : ℕ} {choice : Choice} {q : PlanStores} {results₀ : RunStores} {copy₀ dense₀ : List Float}
@@ -245,7 +245,7 @@ module _ {count : ℕ} {choice : Choice} {q : PlanStores} {results₀ : RunStore
   pub under-lacks :
       StepKnown k row q results copy dense NoPivot (squareIn results)
       → (w : StepsAsk count choice q results₀ copy₀ dense₀)
-      → Halts NoPivotReason k (running choice (w .n) (w .n) (w .start) count)
+      → Halts NoPivotReason k (running choice (w .p .height) (w .n) (w .start) count)
   unfolding reasonOf
   under-lacks leaves w = record { why = noPivot; named = refl; course-is = lacked w (here .at w) (one-back here) (handed w here high row-is) leaves }
 
@@ -253,7 +253,7 @@ module _ {count : ℕ} {choice : Choice} {q : PlanStores} {results₀ : RunStore
   pub under-unsound :
       StepKnown k row q results copy dense NotFinite (squareIn results)
       → (w : StepsAsk count choice q results₀ copy₀ dense₀)
-      → Halts NotFiniteReason k (running choice (w .n) (w .n) (w .start) count)
+      → Halts NotFiniteReason k (running choice (w .p .height) (w .n) (w .start) count)
   unfolding reasonOf
   under-unsound leaves w = record { why = notFinite; named = refl; course-is = unsound w (here .at w) (one-back here) (handed w here high row-is) leaves }
 

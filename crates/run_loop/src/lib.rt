@@ -94,9 +94,9 @@ fn finish(
     d: &[f64],
     x: &mut [f64],
 ) -> RunOutcome
-    requires { ⌜ FinishAsks end n (sideStores (now «u_subs») (now «u_starts») (now «u_slots»)) (now u) (now d) (now x) ⌝ }
-    ensures { λ r. ⌜ ((w : FinishAsks end n (sideStores (now («u_subs» .entry)) (now («u_starts» .entry)) (now («u_slots» .entry))) (now (u .entry)) (now (d .entry)) (now (x .entry)))
-        → FinishLeaves end r (extentOf extent) n (sideStores (now («u_subs» .entry)) (now («u_starts» .entry)) (now («u_slots» .entry))) (now (u .entry)) (now (d .entry)) (now (x .entry)) (now (x .exit)) w) ⌝ }
+    requires { ⌜ FinishAsks end (extentOf extent) n (sideStores (now «u_subs») (now «u_starts») (now «u_slots»)) (now u) (now d) (now x) ⌝ }
+    ensures { λ r. ⌜ ((w : FinishAsks end (extentOf extent) n (sideStores (now («u_subs» .entry)) (now («u_starts» .entry)) (now («u_slots» .entry))) (now (u .entry)) (now (d .entry)) (now (x .entry)))
+        → FinishLeaves end (extentOf extent) r n (sideStores (now («u_subs» .entry)) (now («u_starts» .entry)) (now («u_slots» .entry))) (now (u .entry)) (now (d .entry)) (now (x .entry)) (now (x .exit)) w) ⌝ }
 {
     match end {
         RunOutcome::Stopped(reason, k) => RunOutcome::Stopped(reason, k),
@@ -113,9 +113,11 @@ fn finish(
     }
 }
 
-// A run on a plan that is known to be the pattern's, in stores that are zero throughout: loading, the steps, the end.
+// A run on a plan that is known to be the pattern's, in stores that are zero throughout: loading, the steps, the end. `height` is the number of
+// rows; a whole run is of as many rows as columns.
 pub fn run_planned(
     n: usize,
+    height: usize,
     starts: &[usize],
     columns: &[usize],
     values: &[f64],
@@ -137,16 +139,17 @@ pub fn run_planned(
     dense: &mut [f64],
     pivots: &mut [usize],
 ) -> RunOutcome
-    requires { ⌜ RunAsks (lent n (now starts) (now columns)) (now values) (now right)
+    requires { ⌜ RunAsks (lent n height (now starts) (now columns)) (now values) (now right)
         (planStores (now «l_subs») (now «l_starts») (now «l_slots») (now «u_subs») (now «u_starts») (now «u_slots»))
         (chosenBy choice (now rows)) (extentOf extent) (runStores (now l) (now u) (now d) (now x) (now pivots)) (now copy) (now dense) ⌝ }
-    ensures { λ r. ⌜ Clear (now (dense .exit)) × ((w : RunAsks (lent n (now (starts .entry)) (now (columns .entry))) (now (values .entry)) (now (right .entry))
+    ensures { λ r. ⌜ Clear (now (dense .exit)) × ((w : RunAsks (lent n height (now (starts .entry)) (now (columns .entry))) (now (values .entry)) (now (right .entry))
         (planStores (now («l_subs» .entry)) (now («l_starts» .entry)) (now («l_slots» .entry)) (now («u_subs» .entry)) (now («u_starts» .entry)) (now («u_slots» .entry)))
         (chosenBy choice (now (rows .entry))) (extentOf extent) (runStores (now (l .entry)) (now (u .entry)) (now (d .entry)) (now (x .entry)) (now (pivots .entry))) (now (copy .entry)) (now (dense .entry)))
         → RunLeaves r _ _ _ _ _ _ _ _ _ (runStores (now (l .exit)) (now (u .exit)) (now (d .exit)) (now (x .exit)) (now (pivots .exit))) w) ⌝ }
 {
     load(
         n,
+        height,
         starts,
         columns,
         values,

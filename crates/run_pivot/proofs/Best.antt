@@ -58,12 +58,12 @@ best-sparse entry found a (suc d) (x ∷ xs) h under none =
     (λ z m. omega (arith, under z m)) (λ z l u m. none z (omega arith) (omega arith) m))
 
 -- The pivot row of step k: the best of k and a list, where no other row from k + 1 on may serve.
-pub pivot-sparse : (entry : ℕ → Float) (k n : ℕ) (xs : List ℕ) → 1 ≤ k → k ≤ n → Ascending (suc k) xs → ((x : ℕ) → member x xs ≡ true → x ≤ n)
-    → ((x : ℕ) → k < x → x ≤ n → member x xs ≡ false → mayPivot (entry x) ≡ false) → pivotRow largest n k entry ≡ best entry 0 (k ∷ xs)
+pub pivot-sparse : (entry : ℕ → Float) (k height : ℕ) (xs : List ℕ) → 1 ≤ k → k ≤ height → Ascending (suc k) xs → ((x : ℕ) → member x xs ≡ true → x ≤ height)
+    → ((x : ℕ) → k < x → x ≤ height → member x xs ≡ false → mayPivot (entry x) ≡ false) → pivotRow largest height k entry ≡ best entry 0 (k ∷ xs)
 unfolding pivotRow between Ascending
-pivot-sparse entry zero n xs low fit h under none = absurd (omega arith)
-pivot-sparse entry (suc k) n xs low fit h under none =
-    best-sparse entry 0 (suc k) (suc n - suc k) (suc k ∷ xs) (le-refl (suc k), h)
+pivot-sparse entry zero height xs low fit h under none = absurd (omega arith)
+pivot-sparse entry (suc k) height xs low fit h under none =
+    best-sparse entry 0 (suc k) (suc height - suc k) (suc k ∷ xs) (le-refl (suc k), h)
     (λ x m. ⊎-elim (λ (q : x ≡ suc k). omega arith) (λ r. omega (arith, under x r)) (member-cases x (suc k) xs m))
     (λ x l u m. none x (above x l m) (omega arith) (not-tail x (suc k) xs m))
   where

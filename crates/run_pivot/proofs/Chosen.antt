@@ -58,11 +58,11 @@ fits-at p rows zero h low high = absurd (omega arith)
 fits-at p rows (suc t) h low high = rw (less-one t) (listed-in-range p rows h t high)
 
 -- the reference takes row p_k where its entry may serve
-listed-pivot : (rows : List ℕ) (n k : ℕ) (entry : ℕ → Float) → 1 ≤ k
-    → pivotRow (listed rows) n k entry ≡ cond (mayPivot (entry (getD rows (k - 1) 0))) (getD rows (k - 1) 0) 0
+listed-pivot : (rows : List ℕ) (height k : ℕ) (entry : ℕ → Float) → 1 ≤ k
+    → pivotRow (listed rows) height k entry ≡ cond (mayPivot (entry (getD rows (k - 1) 0))) (getD rows (k - 1) 0) 0
 unfolding pivotRow
-listed-pivot rows n zero entry l = absurd (omega arith)
-listed-pivot rows n (suc before) entry l = rw (less-one before)
+listed-pivot rows height zero entry l = absurd (omega arith)
+listed-pivot rows height (suc before) entry l = rw (less-one before)
 
 module _ (k row : ℕ) (own : Float) (slots : List Float) (subs : List ℕ) (w : PivotAsks k row own slots subs) where
   pub slots-size : length slots ≡ length subs
@@ -82,7 +82,7 @@ module _ (k row : ℕ) (own : Float) (slots : List Float) (subs : List ℕ) (w :
   pub subs-ascend : Ascending 0 subs
   subs-ascend = ascending-weaken 0 (suc k) subs (omega arith) (w .ascends)
 
-  outside-none : (x : ℕ) → k < x → x ≤ w .n → member x subs ≡ false → mayPivot (w .entry x) ≡ false
+  outside-none : (x : ℕ) → k < x → x ≤ w .p .height → member x subs ≡ false → mayPivot (w .entry x) ≡ false
   outside-none x l u m = ap mayPivot (w .outside x l u m) ∙ plus-zero-faint
 
   -- a choice that asks for a row is a list, one that asks for none is not
@@ -90,20 +90,19 @@ module _ (k row : ℕ) (own : Float) (slots : List Float) (subs : List ℕ) (w :
   unfolding asked
   largest-is none found place f = record { is = at (w .choice) (w .fits) (w .row-is); found-at = f .found-at }
     where
-      at : (choice : Choice) → choiceFits (w .p) choice ≡ true → row ≡ asked choice k → found ≡ pivotRow choice (w .n) k (w .entry)
+      at : (choice : Choice) → choiceFits (w .p) choice ≡ true → row ≡ asked choice k → found ≡ pivotRow choice (w .p .height) k (w .entry)
       at largest h e =
           f .is (w .entry) (w .own-is) (w .slots-are)
-          ∙ sym (pivot-sparse (w .entry) k (w .n) subs (w .low) (w .high) (w .ascends) (w .bounded) outside-none)
+          ∙ sym (pivot-sparse (w .entry) k (w .p .height) subs (w .low) (omega (arith, w .high, w .tall)) (w .ascends) (w .bounded) outside-none)
       at (listed rows) h e = let r = fits-at (w .p) rows k h (w .low) (omega (arith, w .high, w .width)) in absurd (omega (arith, w .low))
 
   pub listed-is : (row ≡ 0 → ⊥) → (found place : ℕ) → ListedFound k row own slots subs found place → PivotLeaves found place k row own slots subs w
   unfolding asked
   listed-is some found place f = record { is = at (w .choice) (w .fits) (w .row-is); found-at = f .found-at }
     where
-      at : (choice : Choice) → choiceFits (w .p) choice ≡ true → row ≡ asked choice k → found ≡ pivotRow choice (w .n) k (w .entry)
+      at : (choice : Choice) → choiceFits (w .p) choice ≡ true → row ≡ asked choice k → found ≡ pivotRow choice (w .p .height) k (w .entry)
       at largest h e = absurd (some e)
       at (listed rows) h e =
           let r = fits-at (w .p) rows k h (w .low) (omega (arith, w .high, w .width)) in
-          let u = w .height in
           f .is (w .entry) (w .own-is) (w .slots-are) (λ other m. outside-none row (omega arith) (omega arith) m)
-          ∙ rw e (sym (listed-pivot rows (w .n) k (w .entry) (w .low)))
+          ∙ rw e (sym (listed-pivot rows (w .p .height) k (w .entry) (w .low)))

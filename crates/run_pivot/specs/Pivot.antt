@@ -14,7 +14,7 @@ use Rattle.foundation.specs.Reference.{Choice, pivotRow, best}
 use Rattle.foundation.specs.RunCall.{choiceFits}
 use Rattle.run_slots.specs.Handing.{asked}
 
--- Column k by its rows: the diagonal has `own`, the slots have the entries of the rows `subs`, and every other row from k + 1 to n holds +0.
+-- Column k by its rows: the diagonal has `own`, the slots have the entries of the rows `subs`, and every other row from k + 1 to the last holds +0.
 -- `row` is the row that the choice asks for, 0 where the largest entry decides.
 pub record PivotAsks (k row : ℕ) (own : Float) (slots : List Float) (subs : List ℕ) : Type 0 where
   pub p : Pattern
@@ -22,7 +22,7 @@ pub record PivotAsks (k row : ℕ) (own : Float) (slots : List Float) (subs : Li
   pub choice : Choice
   pub entry : ℕ → Float
   pub width : p .n ≡ n
-  pub height : p .height ≡ n
+  pub tall : n ≤ p .height
   pub fits : choiceFits p choice ≡ true
   pub low : 1 ≤ k
   pub high : k ≤ n
@@ -30,8 +30,8 @@ pub record PivotAsks (k row : ℕ) (own : Float) (slots : List Float) (subs : Li
   pub own-is : entry k ≡ own
   pub slots-are : slots ≡ map entry subs
   pub ascends : Ascending (suc k) subs
-  pub bounded : (x : ℕ) → member x subs ≡ true → x ≤ n
-  pub outside : (x : ℕ) → k < x → x ≤ n → member x subs ≡ false → entry x ≡ plusZero
+  pub bounded : (x : ℕ) → member x subs ≡ true → x ≤ p .height
+  pub outside : (x : ℕ) → k < x → x ≤ p .height → member x subs ≡ false → entry x ≡ plusZero
   pub sound : (x : ℕ) → finite (entry x) ≡ true
 
 -- Where a row found stands: none is found, or it is row k, or the row at this place of the list.
@@ -40,7 +40,7 @@ FoundAt k subs row place = (row ≡ 0) ⊎ ((row ≡ k) ⊎ ((place < length sub
 
 -- The reference's pivot row, and where it stands.
 pub record PivotLeaves (row place k asks : ℕ) (own : Float) (slots : List Float) (subs : List ℕ) (w : PivotAsks k asks own slots subs) : Type 0 where
-  pub is : row ≡ pivotRow (w .choice) (w .n) k (w .entry)
+  pub is : row ≡ pivotRow (w .choice) (w .p .height) k (w .entry)
   pub found-at : FoundAt k subs row place
 
 -- the number without its sign as the code finds it: a zero keeps its sign

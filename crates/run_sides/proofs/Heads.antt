@@ -124,12 +124,6 @@ module _ (y₀ : List Float) (stores : SideStores) (heads over : List ℕ) (fact
       done l x m = by-test (member l heads) (λ t. rw t) (λ t. rw t (sym (w .reduction .stays l x t m)))
 
   module _ (flag : ℕ) (y : List Float) (bad t : ℕ) (h : Partly flag y bad t) (l : t < length heads) where
-    pub low : 1 ≤ getD heads t 0
-    low = w .reduction .headed (getD heads t 0) (member-at t heads l) .0
-
-    pub high : getD heads t 0 ≤ w .n
-    high = w .reduction .headed (getD heads t 0) (member-at t heads l) .1
-
     -- the square so far differs from the next one in the list of this head alone
     elsewhere : (k x : ℕ) → 1 ≤ k → k ≤ w .n → (k ≡ getD heads t 0 → ⊥) → member x (kept (w .s) (w .side) k) ≡ true
         → atSide (w .side) (blend (w .side) (take (t + 1) heads) (w .new) (w .old)) k x ≡ atSide (w .side) (blend (w .side) (take t heads) (w .new) (w .old)) k x
@@ -169,72 +163,77 @@ module _ (y₀ : List Float) (stores : SideStores) (heads over : List ℕ) (fact
     partly-none s′ up past = partly-same (λ x m. w .reduction .becomes t x l m ∙ reduced-right _ _ _ (w .reduction .others (getD heads t 0) x m
         (fails (member x over) (λ k. not-member-nil x (rw (drop-of-length-le over past) at (behind (getD heads t 0) s′ x over up k (above x m)))))))
 
-    pub crossing-at : (s′ : ℕ) → UpTo (getD heads t 0) s′ over → (s′ < length over → getD heads t 0 < getD over s′ 0)
-        → Crossing (kept (w .s) (w .side) (getD heads t 0)) (drop s′ over) (drop s′ values) dense
-    unfolding Below
-    crossing-at s′ up beyond = record {
-      ascends = ascending-weaken 0 (getD heads t 0 + 1) (kept (w .s) (w .side) (getD heads t 0)) (omega arith) (w .index .ascends (getD heads t 0));
-      over-ascends = ascending-drop 0 s′ over (w .reduction .over-ascends);
-      within = λ x m. let (i, j, u) = drop-from 0 x s′ over (w .reduction .over-ascends) m in
-          w .reduction .within (getD heads t 0) x (member-at t heads l) i (omega (arith, beyond j));
-      valued = ap (λ (zs : List Float). drop s′ zs) (w .reduction .valued) ∙ drop-gathered dense s′ over;
-      others = λ x m n. w .reduction .others (getD heads t 0) x m (fails (member x over) (λ k. true≢false (sym (behind (getD heads t 0) s′ x over up k (above x m)) ∙ n)));
-      room = λ x m. w .reduction .room (getD heads t 0) x m;
-    }
-
     -- the cell of the first common member
     pub cell-fits : (s′ : ℕ) → s′ ≤ length over → opening + s′ ≤ length (stores .subs)
     cell-fits s′ u = omega (arith, w .inside)
 
-    -- the numbers of the head's list
-    pub head-place : length (stores .subs) * 8 < 2 ^ 63 → ListAsks (stores .starts) (stores .slotStarts) (getD heads t 0)
-    head-place = list-asks (w .s) (w .side) (w .n) stores (w .index) (getD heads t 0) low high
+    -- a head that the other list goes beyond, from place s′ on
+    module _ (s′ : ℕ) (some : s′ < length over) (up : UpTo (getD heads t 0) s′ over) (beyond : s′ < length over → getD heads t 0 < getD over s′ 0) where
+      -- it has a list of its own
+      listed : (1 ≤ getD heads t 0) × (getD heads t 0 ≤ w .n)
+      listed = w .reduction .headed (getD heads t 0) (getD over s′ 0) (member-at t heads l) (member-at s′ over some) (beyond some)
 
-    module _ (from to slot next : ℕ) (at : ListAt (stores .starts) (stores .slotStarts) (getD heads t 0) from to slot next) where
-      pub head-lends : length (stores .subs) * 8 < 2 ^ 63 → length y * 8 < 2 ^ 63 → Lends stores y from to slot next
-      head-lends = list-lends (w .s) (w .side) (w .n) stores (w .index) (getD heads t 0) low high from to slot next at (blend (w .side) (take t heads) (w .new) (w .old)) y (h .shows)
+      crossing-at : Crossing (kept (w .s) (w .side) (getD heads t 0)) (drop s′ over) (drop s′ values) dense
+      unfolding Below
+      crossing-at = record {
+        ascends = ascending-weaken 0 (getD heads t 0 + 1) (kept (w .s) (w .side) (getD heads t 0)) (omega arith) (w .index .ascends (getD heads t 0));
+        over-ascends = ascending-drop 0 s′ over (w .reduction .over-ascends);
+        within = λ x m. let (i, j, u) = drop-from 0 x s′ over (w .reduction .over-ascends) m in
+            w .reduction .within (getD heads t 0) x (member-at t heads l) i (omega (arith, beyond j));
+        valued = ap (λ (zs : List Float). drop s′ zs) (w .reduction .valued) ∙ drop-gathered dense s′ over;
+        others = λ x m n. w .reduction .others (getD heads t 0) x m (fails (member x over) (λ k. true≢false (sym (behind (getD heads t 0) s′ x over up k (above x m)) ∙ n)));
+        room = λ x m. w .reduction .room (getD heads t 0) x m;
+      }
 
-      -- the part that the code lends, and its subscripts
-      pub lent-part : partOf slot next y ≡ map (atSide (w .side) (w .old) (getD heads t 0)) (kept (w .s) (w .side) (getD heads t 0))
-      lent-part =
-          list-shows (w .s) (w .side) (w .n) stores (w .index) (getD heads t 0) low high from to slot next at (blend (w .side) (take t heads) (w .new) (w .old)) y (h .shows)
-          ∙ map-cong _ _ (kept (w .s) (w .side) (getD heads t 0)) (λ x m. before x)
+      -- the numbers of its list
+      pub head-place : length (stores .subs) * 8 < 2 ^ 63 → ListAsks (stores .starts) (stores .slotStarts) (getD heads t 0)
+      head-place = list-asks (w .s) (w .side) (w .n) stores (w .index) (getD heads t 0) (listed .0) (listed .1)
 
-      pub lent-subs : partOf from to (stores .subs) ≡ kept (w .s) (w .side) (getD heads t 0)
-      lent-subs = list-lies (w .s) (w .side) (w .n) stores (w .index) (getD heads t 0) low high from to slot next at .opens
+      module _ (from to slot next : ℕ) (at : ListAt (stores .starts) (stores .slotStarts) (getD heads t 0) from to slot next) where
+        pub head-lends : length (stores .subs) * 8 < 2 ^ 63 → length y * 8 < 2 ^ 63 → Lends stores y from to slot next
+        head-lends = list-lends (w .s) (w .side) (w .n) stores (w .index) (getD heads t 0) (listed .0) (listed .1) from to slot next at (blend (w .side) (take t heads) (w .new) (w .old)) y (h .shows)
 
-      -- what a head's call asks
-      pub asked : (s′ : ℕ) → s′ < length over → UpTo (getD heads t 0) s′ over → (s′ < length over → getD heads t 0 < getD over s′ 0) → (m : Float) → isZero m ≡ false
-          → (length (partOf slot next y) ≡ length (partOf from to (stores .subs)))
-          × (isZero m ≡ false)
-          × Crossing (partOf from to (stores .subs)) (partOf s′ (length over) over) (partOf s′ (length over) values) dense
-          × (0 < length (partOf s′ (length over) over))
-          × (all finite (partOf slot next y) ≡ true)
-          × SharedCell (partOf from to (stores .subs)) from (opening + s′) (getD (partOf s′ (length over) over) 0 0)
-      asked s′ some up beyond m nz =
-          let lv : length values ≡ length over = ap length (w .reduction .valued) ∙ length-gathered dense over in
-          let a : partOf s′ (length over) over ≡ drop s′ over = take-all (length over - s′) (drop s′ over) (simp length-drop (omega arith)) in
-          let b : partOf s′ (length over) values ≡ drop s′ values = take-all (length over - s′) (drop s′ values) (simp length-drop (omega arith)) in (
-            rw (lent-part, lent-subs) (length-map (kept (w .s) (w .side) (getD heads t 0)) (atSide (w .side) (w .old) (getD heads t 0))),
-            nz,
-            rw (lent-subs, a, b) (crossing-at s′ up beyond),
-            rw a (simp length-drop (omega arith)),
-            rw lent-part (all-mapped finite (atSide (w .side) (w .old) (getD heads t 0)) (kept (w .s) (w .side) (getD heads t 0)) (λ x k. w .reduction .sound (getD heads t 0) x (member-at t heads l) k)),
-            rw (first-left over s′ some) (shared-cell (stores .subs) over from (to - from) opening s′ (w .opens) some),
-          )
+        -- the part that the code lends, and its subscripts
+        lent-part : partOf slot next y ≡ map (atSide (w .side) (w .old) (getD heads t 0)) (kept (w .s) (w .side) (getD heads t 0))
+        lent-part =
+            list-shows (w .s) (w .side) (w .n) stores (w .index) (getD heads t 0) (listed .0) (listed .1) from to slot next at (blend (w .side) (take t heads) (w .new) (w .old)) y (h .shows)
+            ∙ map-cong _ _ (kept (w .s) (w .side) (getD heads t 0)) (λ x m. before x)
 
-      -- what it leaves
-      pub partly-turn : (new : List Float) (r : ℕ)
-          → (new ≡ reducedAll (getD factors t nan) (gathered dense (partOf from to (stores .subs))) (partOf slot next y)) × (r ≡ flagged bad (all finite new))
-          → Partly flag (patched slot next new y) r (t + 1)
-      unfolding gathered soundList
-      partly-turn new r (e, g) =
-          let list = kept (w .s) (w .side) (getD heads t 0) in
-          let is : new ≡ map (atSide (w .side) (w .new) (getD heads t 0)) list
-          = e ∙ rw (lent-subs, lent-part, reduced-maps (getD factors t nan) (λ x. getD dense x nan) (atSide (w .side) (w .old) (getD heads t 0)) list)
-          (map-cong _ _ list (λ x m. sym (w .reduction .becomes t x l m))) in
-          record {
-            shows = list-written (w .s) (w .side) (w .n) stores (w .index) (getD heads t 0) low high from to slot next at (blend (w .side) (take t heads) (w .new) (w .old)) y (h .shows)
-                (blend (w .side) (take (t + 1) heads) (w .new) (w .old)) elsewhere new (is ∙ map-cong _ _ list (λ x m. sym (here x)));
-            flags = next-flags r (g ∙ rw is);
-          }
+        lent-subs : partOf from to (stores .subs) ≡ kept (w .s) (w .side) (getD heads t 0)
+        lent-subs = list-lies (w .s) (w .side) (w .n) stores (w .index) (getD heads t 0) (listed .0) (listed .1) from to slot next at .opens
+
+        -- what a head's call asks
+        pub asked : (m : Float) → isZero m ≡ false
+            → (length (partOf slot next y) ≡ length (partOf from to (stores .subs)))
+            × (isZero m ≡ false)
+            × Crossing (partOf from to (stores .subs)) (partOf s′ (length over) over) (partOf s′ (length over) values) dense
+            × (0 < length (partOf s′ (length over) over))
+            × (all finite (partOf slot next y) ≡ true)
+            × SharedCell (partOf from to (stores .subs)) from (opening + s′) (getD (partOf s′ (length over) over) 0 0)
+        asked m nz =
+            let lv : length values ≡ length over = ap length (w .reduction .valued) ∙ length-gathered dense over in
+            let a : partOf s′ (length over) over ≡ drop s′ over = take-all (length over - s′) (drop s′ over) (simp length-drop (omega arith)) in
+            let b : partOf s′ (length over) values ≡ drop s′ values = take-all (length over - s′) (drop s′ values) (simp length-drop (omega arith)) in (
+              rw (lent-part, lent-subs) (length-map (kept (w .s) (w .side) (getD heads t 0)) (atSide (w .side) (w .old) (getD heads t 0))),
+              nz,
+              rw (lent-subs, a, b) crossing-at,
+              rw a (simp length-drop (omega arith)),
+              rw lent-part (all-mapped finite (atSide (w .side) (w .old) (getD heads t 0)) (kept (w .s) (w .side) (getD heads t 0)) (λ x k. w .reduction .sound (getD heads t 0) x (member-at t heads l) k)),
+              rw (first-left over s′ some) (shared-cell (stores .subs) over from (to - from) opening s′ (w .opens) some),
+            )
+
+        -- what it leaves
+        pub partly-turn : (new : List Float) (r : ℕ)
+            → (new ≡ reducedAll (getD factors t nan) (gathered dense (partOf from to (stores .subs))) (partOf slot next y)) × (r ≡ flagged bad (all finite new))
+            → Partly flag (patched slot next new y) r (t + 1)
+        unfolding gathered soundList
+        partly-turn new r (e, g) =
+            let list = kept (w .s) (w .side) (getD heads t 0) in
+            let is : new ≡ map (atSide (w .side) (w .new) (getD heads t 0)) list
+            = e ∙ rw (lent-subs, lent-part, reduced-maps (getD factors t nan) (λ x. getD dense x nan) (atSide (w .side) (w .old) (getD heads t 0)) list)
+            (map-cong _ _ list (λ x m. sym (w .reduction .becomes t x l m))) in
+            record {
+              shows = list-written (w .s) (w .side) (w .n) stores (w .index) (getD heads t 0) (listed .0) (listed .1) from to slot next at (blend (w .side) (take t heads) (w .new) (w .old)) y (h .shows)
+                  (blend (w .side) (take (t + 1) heads) (w .new) (w .old)) elsewhere new (is ∙ map-cong _ _ list (λ x m. sym (here x)));
+              flags = next-flags r (g ∙ rw is);
+            }

@@ -49,7 +49,7 @@ module _ (y : List Float) (stores : SideStores) (heads : List ℕ) (factors copy
     pub copy-asks : length (partOf slot next y) ≤ length copy
     copy-asks = rw (part-is, length-map (kept (w .s) (w .side) k) (atSide (w .side) (w .old) k)) (w .fits)
 
-    below-own : Below (w .n + 1) own
+    below-own : Below (w .height + 1) own
     unfolding Below
     below-own = rw (lies .opens) (λ x m. omega (arith, w .bounded x m))
 
@@ -64,7 +64,7 @@ module _ (y : List Float) (stores : SideStores) (heads : List ℕ) (factors copy
           (rw (front-is, lies .opens) (length-map (kept (w .s) (w .side) k) (atSide (w .side) (w .old) k)), rw (w .room) below-own, c)
 
       module _ (dense′ : List Float) (same : length dense′ ≡ length dense) (laid : Spread own (frontOf copy′) dense′) where
-        is-dense : Dense (w .n) (kept (w .s) (w .side) k) (atSide (w .side) (w .old) k) dense′
+        is-dense : Dense (w .height) (kept (w .s) (w .side) k) (atSide (w .side) (w .old) k) dense′
         unfolding Spread
         is-dense =
             let r = w .room in

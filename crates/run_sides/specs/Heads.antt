@@ -20,9 +20,9 @@ use Rattle.run_slots.specs.Shows.{Shows}
 use Rattle.run_stretch.specs.Stretches.{gathered}
 
 -- What a side's part of a step makes of a square: off the list of each head, its factor times what `dense` has. Only at the members of `over`
--- need `dense` be other than zero.
+-- need `dense` be other than zero. There are lists for 1 to n: a head that `over` goes beyond has one, a head above n has none.
 pub record Reduction (s : Planning) (side : Side) (n : ℕ) (old new : Square Float) (heads over : List ℕ) (factors values dense : List Float) : Type 0 where
-  pub headed : (i : ℕ) → member i heads ≡ true → (1 ≤ i) × (i ≤ n)
+  pub headed : (i x : ℕ) → member i heads ≡ true → member x over ≡ true → i < x → (1 ≤ i) × (i ≤ n)
   pub once : Ascending 0 heads
   pub factored : length factors ≡ length heads
   pub over-ascends : Ascending 0 over

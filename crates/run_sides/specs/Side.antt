@@ -24,21 +24,24 @@ use Rattle.run_stretch.specs.Work.{Dense}
 unfoldable pub divided : ℕ → Square Float → Square Float
 divided k square i j = cond (ltb k i) (cond (eqb j k) (multiplier k square i) (square i j)) (square i j)
 
--- The side's store shows the square before; however list k's numbers are laid out in the work stores, they make of it the square after.
+-- The side's store shows the square before; however list k's numbers are laid out in the work stores, which go by the row count, they make of
+-- it the square after.
 pub record SideAsks (y : List Float) (stores : SideStores) (heads : List ℕ) (factors copy dense : List Float) (k : ℕ) : Type 0 where
   pub s : Planning
   pub side : Side
   pub n : ℕ
+  pub height : ℕ
   pub old : Square Float
   pub new : Square Float
   pub low : 1 ≤ k
   pub high : k ≤ n
+  pub tall : n ≤ height
   pub index : Indexed s side n stores
   pub shows : Shows s side n old y
-  pub room : length dense ≡ n + 1
+  pub room : length dense ≡ height + 1
   pub fits : length (kept s side k) ≤ length copy
-  pub bounded : (x : ℕ) → member x (kept s side k) ≡ true → x ≤ n
-  pub reduction : (values dense : List Float) → values ≡ map (atSide side old k) (kept s side k) → Dense n (kept s side k) (atSide side old k) dense
+  pub bounded : (x : ℕ) → member x (kept s side k) ≡ true → x ≤ height
+  pub reduction : (values dense : List Float) → values ≡ map (atSide side old k) (kept s side k) → Dense height (kept s side k) (atSide side old k) dense
       → Reduction s side n old new heads (kept s side k) factors values dense
 
 -- The side's store shows the square after; the flag tells whether all that was written is finite.

@@ -82,6 +82,7 @@ pub fn reduce_lists(
         if m == 0.0 {
             continue;
         }
+        // Nothing lies beyond the head. A head above n always ends here: it has no list.
         if s == over.len() {
             continue;
         }

@@ -26,22 +26,22 @@ use Rattle.foundation.proofs.Containment.{chain, contained, held-after-step}
 use Rattle.foundation.proofs.FloatSteps.{plus-zero-is, eliminated-above, pivot-not-plus, is-plus-zero, stepped-on}
 use Rattle.foundation.proofs.LaidBack.{kept-listed, kept-other, listed-kept}
 use Rattle.foundation.proofs.FreeSteps.{exchanged-left, exchanged-other}
-use Rattle.run_slots.specs.Index.{Grid}
+use Rattle.run_slots.specs.Index.{limit, Grid}
 use Rattle.run_slots.proofs.Grid.{slot-upper, slot-lower, no-slot-upper, no-slot-lower}
 
 -- the plan of a pattern as the steps need it
-pub grid-from : (p : Pattern) (s : Planning) → PlanFacts p s → p .height ≡ p .n → Grid s (p .n)
-unfolding kept list
-grid-from p s f square = record {
+pub grid-from : (p : Pattern) (s : Planning) → PlanFacts p s → Grid s (p .n) (p .height)
+unfolding kept list limit
+grid-from p s f = record {
   ascends = λ side k. ascending-raise k (suc k) (keep (λ x. not (eqb x k)) (list s side k)) (ascending-keep k (λ x. not (eqb x k)) (list s side k) (f .ascending side k))
       (λ x m. let a = member-low x k (list s side k) (f .ascending side k) (kept-listed s side k x m) in let b = kept-other s side k x m in omega arith);
   bounded = λ side k x m. within side k x (kept-listed s side k x m);
   meets = λ k i j a b. chain (f .closed) k i j (kept-listed s lower k i a) (kept-listed s upper k j b);
-  lower-in-upper = λ k i m. listed-kept s upper k i (f .lower-in-upper k i (kept-listed s lower k i m) (within lower k i (kept-listed s lower k i m))) (kept-other s lower k i m);
+  lower-in-upper = λ k i m high. listed-kept s upper k i (f .lower-in-upper k i (kept-listed s lower k i m) high) (kept-other s lower k i m);
 }
   where
-    within : (side : Side) (k x : ℕ) → member x (list s side k) ≡ true → x ≤ p .n
-    within lower k x m = omega (arith, f .lower-bounded k x m)
+    within : (side : Side) (k x : ℕ) → member x (list s side k) ≡ true → x ≤ limit (p .n) (p .height) side
+    within lower k x m = f .lower-bounded k x m
     within upper k x m = f .upper-bounded k x m
 
 module _ {A : Type 0} (k p : ℕ) (square : Square A) where
@@ -61,7 +61,7 @@ has-slot : (s : Planning) (i j : ℕ) → slotIn (s .L) (s .U) i j ≡ true → 
 unfolding hasSlot
 has-slot s i j e = e
 
-module _ (s : Planning) (n : ℕ) (g : Grid s n) (square : Square Float) (k p : ℕ)
+module _ (s : Planning) (n height : ℕ) (g : Grid s n height) (square : Square Float) (k p : ℕ)
     (out : (i j : ℕ) → hasSlot s i j ≡ false → square i j ≡ plusZero)
     (after : (i j : ℕ) → hasSlot s i j ≡ false → eliminated k (exchanged k p square) i j ≡ plusZero)
     (below : k < p) (row : member p (kept s lower k) ≡ true) where

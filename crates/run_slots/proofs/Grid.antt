@@ -52,7 +52,7 @@ module _ (s : Planning) where
   unfolding hasSlot
   no-slot-lower i j h e = fails (slotIn (s .L) (s .U) i j) (λ t. true≢false (sym (slot-lower i j h t) ∙ e))
 
-module _ (s : Planning) (n : ℕ) (g : Grid s n) where
+module _ (s : Planning) (n height : ℕ) (g : Grid s n height) where
   pub above : (side : Side) (k x : ℕ) → member x (kept s side k) ≡ true → k < x
   above side k x m = member-low x (suc k) (kept s side k) (g .ascends side k) m
 

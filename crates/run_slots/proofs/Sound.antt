@@ -7,13 +7,13 @@ use Prim.Native.Nat.{ℕ, zero, suc, _+_, _-_, _*_, _≤_, _<_}
 use native.Mathlib.Decide.{decLt}
 use native.Mathlib.Nat.{zero-mul, suc-mul}
 use native.Mathlib.Omega.{arith}
-use lib.Dec.{eqb, ltb}
+use lib.Dec.{eqb, ltb, leb}
 use lib.Ieee.{Float, nan}
 use lib.ListN.{length, take, drop, getD, length-map}
-use borrow.Author.Tests.{eqb-true, eqb-false, eq-eqb, ne-eqb, lt-ltb, le-ltb, ltb-true}
+use borrow.Author.Tests.{eqb-true, eqb-false, eq-eqb, ne-eqb, lt-ltb, le-ltb, ltb-true, le-leb, leb-true}
 use Rattle.lists.specs.Functions.{all, total, keep}
 use Rattle.lists.specs.Sets.{member, Ascending, between}
-use Rattle.lists.proofs.Members.{by-test, member-head, member-tail, fails, same-test, and-left, and-right, and-both, or-true-cases, in-between, between-low, between-high, in-keep, kept-passes, all-in, all-from, all-cong}
+use Rattle.lists.proofs.Members.{by-test, member-head, member-tail, fails, same-test, and-left, and-right, and-both, or-true-cases, in-between, between-low, between-high, in-keep, kept-in, kept-passes, all-in, all-from, all-cong}
 use Rattle.lists.proofs.Order.{member-low, ascending-weaken, ascending-keep, ascending-between, same-members-by}
 use Rattle.lists.proofs.Counting.{total-passing}
 use Rattle.foundation.specs.Numbers.{plusZero, isZero, finite, product, difference}
@@ -24,9 +24,9 @@ use Rattle.foundation.specs.Square.{Square}
 use Rattle.foundation.specs.Shown.{atSide}
 use Rattle.foundation.specs.Reference.{multiplier, reduced, eliminated, eliminatedRight, updatesAt, soundUpdate, soundPlace, soundRow, soundStep}
 use Rattle.foundation.proofs.FloatSteps.{zero-plus-zero, multiplier-zero, reduced-left, reduced-right, eliminated-above, eliminated-left, eliminated-column, eliminated-right, eliminated-zero}
-use Rattle.run_slots.specs.Index.{Grid}
+use Rattle.run_slots.specs.Index.{limit, Grid}
 use Rattle.run_slots.specs.Shows.{InSlots}
-use Rattle.run_slots.specs.Flags.{flagged, nonzeros, soundList}
+use Rattle.run_slots.specs.Flags.{flagged, nonzeros, withDiagonal, soundList}
 use Rattle.run_slots.proofs.Flags.{flagged-more}
 use Rattle.run_slots.proofs.Floats.{sound-is}
 use Rattle.run_slots.proofs.Grid.{row-stays, column-stays, above, slot-upper, slot-lower, no-slot-upper, no-slot-lower}
@@ -79,39 +79,44 @@ and-five true true false t u = refl
 and-five true false r t u = refl
 and-five false q r t u = refl
 
-step-rows : (n k i : ℕ) (square : Square Float) (right : ℕ → Float) → soundStep n n k square right ≡ true → k < i → i ≤ n → soundRow n k square right i ≡ true
+step-rows : (height n k i : ℕ) (square : Square Float) (right : ℕ → Float) → soundStep height n k square right ≡ true → k < i → i ≤ height → soundRow n k square right i ≡ true
 unfolding soundStep
-step-rows n k i square right e l u = all-in i (soundRow n k square right) (between (suc k) n) e (in-between i (suc k) n l u)
+step-rows height n k i square right e l u = all-in i (soundRow n k square right) (between (suc k) height) e (in-between i (suc k) height l u)
 
 pub nonzeros-map : (f : ℕ → Float) (xs : List ℕ) → nonzeros (map f xs) ≡ total (λ x. cond (isZero (f x)) 0 1) xs
 unfolding nonzeros total
 nonzeros-map f [] = refl
 nonzeros-map f (x ∷ xs) = rw (nonzeros-map f xs)
 
-module _ (s : Planning) (n : ℕ) (g : Grid s n) (square : Square Float) (h : InSlots s square) (k : ℕ) where
+module _ (s : Planning) (n height : ℕ) (g : Grid s n height) (square : Square Float) (h : InSlots s square) (k : ℕ) where
   zero-multiplier : (i : ℕ) → k < i → member i (kept s lower k) ≡ false → isZero (multiplier k square i) ≡ true
   zero-multiplier i l e =
       let z = h .outside i k (no-slot-lower s i k l e) in
       let zz : isZero (square i k) ≡ true = rw z zero-plus-zero in
       ap isZero (multiplier-zero k square i zz) ∙ zz
 
+  -- L's rows end at the last row, U's columns at n
+  row-bound : (j i : ℕ) → member i (kept s lower j) ≡ true → i ≤ height
+  unfolding limit
+  row-bound j i m = g .bounded lower j i m
+
+  column-bound : (i j : ℕ) → member j (kept s upper i) ≡ true → j ≤ n
+  unfolding limit
+  column-bound i j m = g .bounded upper i j m
+
   -- The updates of a step.
-  pub updates-count : updatesAt n n k square ≡ nonzeros (map (multiplier k square) (kept s lower k)) * nonzeros (map (λ j. square k j) (kept s upper k))
+  pub updates-count : updatesAt height n k square ≡ nonzeros (map (multiplier k square) (kept s lower k)) * nonzeros (map (λ j. square k j) (kept s upper k))
   unfolding updatesAt
   updates-count =
       let c = total (λ j. cond (isZero (square k j)) 0 1) (between (suc k) n) in
       let inner : c ≡ nonzeros (map (λ j. square k j) (kept s upper k))
-      = total-cong-range (λ j. cond (isZero (square k j)) 0 1) (kept s upper k) (g .ascends upper k) (λ x m. g .bounded upper k x m)
+      = sparse-total (λ j. cond (isZero (square k j)) 0 1) (suc k) n (kept s upper k) (g .ascends upper k) (λ x m. column-bound k x m)
       (λ x l e. rw (h .outside k x (no-slot-upper s k x l e), zero-plus-zero))
       ∙ sym (nonzeros-map (λ j. square k j) (kept s upper k)) in
-      let outer : total (λ i. cond (isZero (multiplier k square i)) 0 c) (between (suc k) n) ≡ total (λ i. cond (isZero (multiplier k square i)) 0 c) (kept s lower k)
-      = total-cong-range (λ i. cond (isZero (multiplier k square i)) 0 c) (kept s lower k) (g .ascends lower k) (λ x m. g .bounded lower k x m)
+      let outer : total (λ i. cond (isZero (multiplier k square i)) 0 c) (between (suc k) height) ≡ total (λ i. cond (isZero (multiplier k square i)) 0 c) (kept s lower k)
+      = sparse-total (λ i. cond (isZero (multiplier k square i)) 0 c) (suc k) height (kept s lower k) (g .ascends lower k) (λ x m. row-bound k x m)
       (λ x l e. rw (zero-multiplier x l e)) in
       outer ∙ total-times (λ i. isZero (multiplier k square i)) c (kept s lower k) ∙ rw (inner, nonzeros-map (multiplier k square) (kept s lower k))
-    where
-      total-cong-range : (f : ℕ → ℕ) (xs : List ℕ) → Ascending (suc k) xs → ((x : ℕ) → member x xs ≡ true → x ≤ n) → ((x : ℕ) → k < x → member x xs ≡ false → f x ≡ 0)
-          → total f (between (suc k) n) ≡ total f xs
-      total-cong-range f xs a u none = sparse-total f (suc k) n xs a u (λ x l e. none x l e)
 
   module _ (right : ℕ → Float) (right-sound : (i : ℕ) → finite (right i) ≡ true) where
     -- what row i of a step leaves is finite
@@ -149,7 +154,7 @@ module _ (s : Planning) (n : ℕ) (g : Grid s n) (square : Square Float) (h : In
     stepFlags =
         all finite (map (multiplier k square) (kept s lower k))
         && (all (λ i. finite (eliminatedRight k (multiplier k square) right i)) (kept s lower k)
-        && (all (λ i. finite (eliminated k square i i)) (kept s lower k)
+        && (all (λ i. finite (eliminated k square i i)) (withDiagonal n (kept s lower k))
         && (all (soundList s upper (eliminated k square)) (kept s lower k) && all (soundList s lower (eliminated k square)) (kept s upper k))))
 
     row-parts : (i : ℕ) → leavesFinite i ≡ true → (finite (multiplier k square i) ≡ true) × (finite (eliminatedRight k (multiplier k square) right i) ≡ true)
@@ -173,14 +178,14 @@ module _ (s : Planning) (n : ℕ) (g : Grid s n) (square : Square Float) (h : In
         let z = zero-multiplier i l e in
         let q = h .outside i k (no-slot-lower s i k l e) in
         from-parts i (rw (multiplier-zero k square i (rw q zero-plus-zero)) (h .sound i k)) (rw (z, and-false (ltb k i)) (right-sound i))
-        (λ j a b. rw (row-stays s n g square h k i j e) (h .sound i j))
+        (λ j a b. rw (row-stays s n height g square h k i j e) (h .sound i j))
 
     -- one with a slot there leaves what the flags tell of
     row-in : (i : ℕ) → member i (kept s lower k) ≡ true → all finite (map (multiplier k square) (kept s lower k)) ≡ true
         → all (λ i. finite (eliminatedRight k (multiplier k square) right i)) (kept s lower k) ≡ true
-        → all (λ i. finite (eliminated k square i i)) (kept s lower k) ≡ true
+        → all (λ i. finite (eliminated k square i i)) (withDiagonal n (kept s lower k)) ≡ true
         → all (soundList s upper (eliminated k square)) (kept s lower k) ≡ true → all (soundList s lower (eliminated k square)) (kept s upper k) ≡ true → leavesFinite i ≡ true
-    unfolding soundList atSide
+    unfolding soundList atSide withDiagonal
     row-in i m a b c d e =
         from-parts i (all-in i (λ i. finite (multiplier k square i)) (kept s lower k) (sym (all-map finite (multiplier k square) (kept s lower k)) ∙ a) m)
         (all-in i (λ i. finite (eliminatedRight k (multiplier k square) right i)) (kept s lower k) b m)
@@ -191,40 +196,44 @@ module _ (s : Planning) (n : ℕ) (g : Grid s n) (square : Square Float) (h : In
           | no q ↦ elim (decLt j i) [
             | yes r ↦ all-in i (λ x. finite (eliminated k square x j)) (kept s lower j)
                 (sym (all-map finite (λ x. eliminated k square x j) (kept s lower j)) ∙ all-in j (soundList s lower (eliminated k square)) (kept s upper k) e w) (slot-lower s i j r (g .meets k i j m w))
-            | no r ↦ let same : j ≡ i = omega arith in rw same (all-in i (λ i. finite (eliminated k square i i)) (kept s lower k) c m)
+            | no r ↦ let same : j ≡ i = omega arith in
+                rw same (all-in i (λ i. finite (eliminated k square i i)) (withDiagonal n (kept s lower k)) c (in-keep i (λ i. leb i n) (kept s lower k) m (le-leb i n (omega arith))))
           ]
         ])
-        (λ w. rw (column-stays s n g square h k i j l w) (h .sound i j)))
+        (λ w. rw (column-stays s n height g square h k i j l w) (h .sound i j)))
 
     -- A step is sound exactly where the flags say so.
-    pub sound-step : soundStep n n k square right ≡ stepFlags
-    unfolding soundStep stepFlags soundList atSide
-    sound-step = same-test (all (soundRow n k square right) (between (suc k) n)) _ to back
+    pub sound-step : soundStep height n k square right ≡ stepFlags
+    unfolding soundStep stepFlags soundList atSide withDiagonal
+    sound-step = same-test (all (soundRow n k square right) (between (suc k) height)) _ to back
       where
-        to : all (soundRow n k square right) (between (suc k) n) ≡ true → stepFlags ≡ true
+        to : all (soundRow n k square right) (between (suc k) height) ≡ true → stepFlags ≡ true
         to e =
             and-both _ _ (all-map finite (multiplier k square) (kept s lower k) ∙ all-from _ (kept s lower k) (λ i m. at i m .0))
             (and-both _ _ (all-from _ (kept s lower k) (λ i m. at i m .1))
-            (and-both _ _ (all-from _ (kept s lower k) (λ i m. at i m .2 i (above s n g lower k i m) (g .bounded lower k i m)))
+            (and-both _ _
+            (all-from _ (withDiagonal n (kept s lower k))
+            (λ i m. let there = kept-in i (λ i. leb i n) (kept s lower k) m in
+            at i there .2 i (above s n height g lower k i there) (leb-true i n (kept-passes i (λ i. leb i n) (kept s lower k) m))))
             (and-both _ _
             (all-from _ (kept s lower k) (λ i m. all-map finite (λ x. eliminated k square i x) (kept s upper i) ∙ all-from _ (kept s upper i)
-            (λ x w. at i m .2 x (omega (arith, above s n g lower k i m, above s n g upper i x w)) (g .bounded upper i x w))))
+            (λ x w. at i m .2 x (omega (arith, above s n height g lower k i m, above s n height g upper i x w)) (column-bound i x w))))
             (all-from _ (kept s upper k) (λ j m. all-map finite (λ x. eliminated k square x j) (kept s lower j) ∙ all-from _ (kept s lower j)
-            (λ x w. row x (omega (arith, above s n g upper k j m, above s n g lower j x w)) (g .bounded lower j x w) .2 j (above s n g upper k j m) (g .bounded upper k j m)))))))
+            (λ x w. row x (omega (arith, above s n height g upper k j m, above s n height g lower j x w)) (row-bound j x w) .2 j (above s n height g upper k j m) (column-bound k j m)))))))
           where
-            row : (i : ℕ) → k < i → i ≤ n → (finite (multiplier k square i) ≡ true) × (finite (eliminatedRight k (multiplier k square) right i) ≡ true)
+            row : (i : ℕ) → k < i → i ≤ height → (finite (multiplier k square i) ≡ true) × (finite (eliminatedRight k (multiplier k square) right i) ≡ true)
                 × ((j : ℕ) → k < j → j ≤ n → finite (eliminated k square i j) ≡ true)
-            row i l u = row-parts i (sym (sound-row i l) ∙ all-in i (soundRow n k square right) (between (suc k) n) e (in-between i (suc k) n l u))
+            row i l u = row-parts i (sym (sound-row i l) ∙ all-in i (soundRow n k square right) (between (suc k) height) e (in-between i (suc k) height l u))
 
             at : (i : ℕ) → member i (kept s lower k) ≡ true → (finite (multiplier k square i) ≡ true) × (finite (eliminatedRight k (multiplier k square) right i) ≡ true)
                 × ((j : ℕ) → k < j → j ≤ n → finite (eliminated k square i j) ≡ true)
-            at i m = row i (above s n g lower k i m) (g .bounded lower k i m)
+            at i m = row i (above s n height g lower k i m) (row-bound k i m)
 
-        back : stepFlags ≡ true → all (soundRow n k square right) (between (suc k) n) ≡ true
-        back e = all-from (soundRow n k square right) (between (suc k) n) (λ i m. row i (between-low i (suc k) n m) (between-high i (suc k) n m))
+        back : stepFlags ≡ true → all (soundRow n k square right) (between (suc k) height) ≡ true
+        back e = all-from (soundRow n k square right) (between (suc k) height) (λ i m. row i (between-low i (suc k) height m))
           where
-            row : (i : ℕ) → k < i → i ≤ n → soundRow n k square right i ≡ true
-            row i l u = let parts = five (all finite (map (multiplier k square) (kept s lower k))) (all (λ i. finite (eliminatedRight k (multiplier k square) right i)) (kept s lower k)) (all (λ i. finite (eliminated k square i i)) (kept s lower k)) (all (soundList s upper (eliminated k square)) (kept s lower k)) (all (soundList s lower (eliminated k square)) (kept s upper k)) e in
+            row : (i : ℕ) → k < i → soundRow n k square right i ≡ true
+            row i l = let parts = five (all finite (map (multiplier k square) (kept s lower k))) (all (λ i. finite (eliminatedRight k (multiplier k square) right i)) (kept s lower k)) (all (λ i. finite (eliminated k square i i)) (withDiagonal n (kept s lower k))) (all (soundList s upper (eliminated k square)) (kept s lower k)) (all (soundList s lower (eliminated k square)) (kept s upper k)) e in
                 sound-row i l ∙ by-test (member i (kept s lower k))
                 (λ m. row-in i m (parts .0) (parts .1) (parts .2) (parts .3) (parts .4))
                 (λ m. row-out i l m)
@@ -232,37 +241,37 @@ module _ (s : Planning) (n : ℕ) (g : Grid s n) (square : Square Float) (h : In
     -- the flags of the five parts, one after the other, tell whether the step is sound
     pub flags-sound : (f1 f2 f3 f4 f5 : ℕ) → f1 ≡ flagged 0 (all finite (map (multiplier k square) (kept s lower k)))
         → f2 ≡ flagged f1 (all (λ i. finite (eliminatedRight k (multiplier k square) right i)) (kept s lower k))
-        → f3 ≡ flagged f2 (all (λ i. finite (eliminated k square i i)) (kept s lower k))
+        → f3 ≡ flagged f2 (all (λ i. finite (eliminated k square i i)) (withDiagonal n (kept s lower k)))
         → f4 ≡ flagged f3 (all (soundList s upper (eliminated k square)) (kept s lower k))
-        → f5 ≡ flagged f4 (all (soundList s lower (eliminated k square)) (kept s upper k)) → f5 ≡ flagged 0 (soundStep n n k square right)
+        → f5 ≡ flagged f4 (all (soundList s lower (eliminated k square)) (kept s upper k)) → f5 ≡ flagged 0 (soundStep height n k square right)
     unfolding stepFlags
     flags-sound f1 f2 f3 f4 f5 a b c d e =
         e ∙ rw (sound-step, d, c, b, a, flagged-more, flagged-more, flagged-more, flagged-more)
 
     -- a sound step leaves a square that is finite and in the slots
-    pub kept-next : ((i j : ℕ) → hasSlot s i j ≡ false → eliminated k square i j ≡ plusZero) → soundStep n n k square right ≡ true → InSlots s (eliminated k square)
+    pub kept-next : ((i j : ℕ) → hasSlot s i j ≡ false → eliminated k square i j ≡ plusZero) → soundStep height n k square right ≡ true → InSlots s (eliminated k square)
     kept-next out e = record { outside = out; sound = λ i j. at i j }
       where
         at : (i j : ℕ) → finite (eliminated k square i j) ≡ true
         at i j = by-test (member i (kept s lower k))
-            (λ m. let l = above s n g lower k i m in elim (decLt j k) [
+            (λ m. let l = above s n height g lower k i m in elim (decLt j k) [
               | yes a ↦ rw (eliminated-left k square i j a) (h .sound i j)
               | no a ↦ elim (decLt k j) [
                 | yes b ↦ by-test (member j (kept s upper k))
-                    (λ w. row-parts i (sym (sound-row i l) ∙ step-rows n k i square right e l (g .bounded lower k i m)) .2 j b (g .bounded upper k j w))
-                    (λ w. rw (column-stays s n g square h k i j b w) (h .sound i j))
-                | no b ↦ let q : j ≡ k = omega arith in rw (q, eliminated-column k square i l) (row-parts i (sym (sound-row i l) ∙ step-rows n k i square right e l (g .bounded lower k i m)) .0)
+                    (λ w. row-parts i (sym (sound-row i l) ∙ step-rows height n k i square right e l (row-bound k i m)) .2 j b (column-bound k j w))
+                    (λ w. rw (column-stays s n height g square h k i j b w) (h .sound i j))
+                | no b ↦ let q : j ≡ k = omega arith in rw (q, eliminated-column k square i l) (row-parts i (sym (sound-row i l) ∙ step-rows height n k i square right e l (row-bound k i m)) .0)
               ]
             ])
-            (λ m. rw (row-stays s n g square h k i j m) (h .sound i j))
+            (λ m. rw (row-stays s n height g square h k i j m) (h .sound i j))
 
     -- and a right side that is finite
-    pub right-next : soundStep n n k square right ≡ true → (i : ℕ) → finite (eliminatedRight k (multiplier k square) right i) ≡ true
+    pub right-next : soundStep height n k square right ≡ true → (i : ℕ) → finite (eliminatedRight k (multiplier k square) right i) ≡ true
     unfolding eliminatedRight
     right-next e i = by-test (member i (kept s lower k))
         (λ m.
-        let l = above s n g lower k i m in
-        row-parts i (sym (sound-row i l) ∙ step-rows n k i square right e l (g .bounded lower k i m)) .1)
+        let l = above s n height g lower k i m in
+        row-parts i (sym (sound-row i l) ∙ step-rows height n k i square right e l (row-bound k i m)) .1)
         (λ m. elim (decLt k i) [
           | yes l ↦ rw (zero-multiplier i l m, and-false (ltb k i)) (right-sound i)
           | no l ↦ rw (le-ltb k i (omega arith)) (right-sound i)

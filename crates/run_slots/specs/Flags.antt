@@ -3,7 +3,8 @@ use mathlib.Core.Bool.{Bool, true, false, cond}
 use mathlib.Core.List.{List, [], _∷_, map}
 use Prim.Native.Nat.{ℕ, _+_}
 use lib.Ieee.{Float}
-use Rattle.lists.specs.Functions.{all}
+use lib.Dec.{leb}
+use Rattle.lists.specs.Functions.{all, keep}
 use Rattle.foundation.specs.Numbers.{finite, isZero}
 use Rattle.foundation.specs.Plan.{Planning, Side}
 use Rattle.foundation.specs.Subscripts.{kept}
@@ -20,6 +21,10 @@ flagged bad false = 1
 unfoldable pub nonzeros : List Float → ℕ
 nonzeros [] = 0
 nonzeros (v ∷ vs) = cond (isZero v) 0 1 + nonzeros vs
+
+-- those of the rows that have a place on the diagonal, which ends at row n
+unfoldable pub withDiagonal : ℕ → List ℕ → List ℕ
+withDiagonal n rows = keep (λ i. leb i n) rows
 
 -- whether the numbers of list i of a side are all finite
 unfoldable pub soundList : Planning → Side → Square Float → ℕ → Bool

@@ -36,17 +36,17 @@ pub record LoadAsks (p : Lent) (values right : List Float) (q : PlanStores) (z :
   pub starts-fit : startsFit p ≡ true
   pub layout : Layout (patternOf p) s (p .n) q
   pub values-size : length values ≡ length (p .columns)
-  pub right-size : length right ≡ p .n
+  pub right-size : length right ≡ p .height
   pub l-size : slotsOf s lower (p .n) ≤ length (z .lowerSlots)
   pub u-size : slotsOf s upper (p .n) ≤ length (z .upperSlots)
   pub d-size : length (z .diagonal) ≡ p .n
-  pub x-size : length (z .rightSide) ≡ p .n
+  pub x-size : length (z .rightSide) ≡ p .height
   pub l-clear : Clear (z .lowerSlots)
   pub u-clear : Clear (z .upperSlots)
 
 -- The stores show the square before the first step.
 abbrev pub LoadLeaves : (p : Lent) (values right : List Float) (q : PlanStores) (z z′ : SquareStores) → LoadAsks p values right q z → Type 0
-LoadLeaves p values right q z z′ w = ShowsAll (w .s) (p .n) (placed (patternOf p) plusZero (valueAt p values)) (rightAt right) z′
+LoadLeaves p values right q z z′ w = ShowsAll (w .s) (p .n) (p .height) (placed (patternOf p) plusZero (valueAt p values)) (rightAt right) z′
 
 -- ---- a step
 
@@ -55,7 +55,7 @@ unfoldable pub asked : Choice → ℕ → ℕ
 asked largest k = 0
 asked (listed rows) k = getD rows (k - 1) 0
 
--- The run stands before step k, and the two work stores have n and n+1 places, the second +0 throughout.
+-- The run stands before step k, and the two work stores have a place for each row and one more, the second +0 throughout.
 pub record StepAsks (k row : ℕ) (q : PlanStores) (z : SquareStores) (copy dense : List Float) : Type 0 where
   pub p : Pattern
   pub s : Planning
@@ -68,8 +68,8 @@ pub record StepAsks (k row : ℕ) (q : PlanStores) (z : SquareStores) (copy dens
   pub fits : choiceFits p choice ≡ true
   pub row-is : row ≡ asked choice k
   pub stands : Stands p s n k g z
-  pub copy-size : length copy ≡ n
-  pub dense-size : length dense ≡ n + 1
+  pub copy-size : length copy ≡ p .height
+  pub dense-size : length dense ≡ p .height + 1
   pub clear : Clear dense
 
 -- A step that went: its pivot row is the reference's, all of it was finite, and the run stands before the next step. A step that did not: the
@@ -78,26 +78,26 @@ abbrev pub StepLeaves : StepEnd → (k row : ℕ) (q : PlanStores) (z : SquareSt
     → StepAsks k row q z copy dense → Type 0
 StepLeaves (Went r updates) k row q z copy dense z′ w =
     (1 ≤ r)
-    × (pivotRow (w .choice) (w .n) k (λ i. (w .g .square) i k) ≡ r)
-    × (soundWith (w .n) (w .n) k r (w .g) ≡ true)
-    × (updates ≡ updatesAt (w .n) (w .n) k (exchanged k r (w .g .square)))
-    × (updates ≤ 1048576)
-    × Stands (w .p) (w .s) (w .n) (suc k) (stepped (w .n) (w .n) k r (w .g)) z′
+    × (pivotRow (w .choice) (w .p .height) k (λ i. (w .g .square) i k) ≡ r)
+    × (soundWith (w .p .height) (w .n) k r (w .g) ≡ true)
+    × (updates ≡ updatesAt (w .p .height) (w .n) k (exchanged k r (w .g .square)))
+    × (updates ≤ 2097152)
+    × Stands (w .p) (w .s) (w .n) (suc k) (stepped (w .p .height) (w .n) k r (w .g)) z′
 StepLeaves NoPivot k row q z copy dense z′ w =
-    pivotRow (w .choice) (w .n) k (λ i. (w .g .square) i k) ≡ 0
+    pivotRow (w .choice) (w .p .height) k (λ i. (w .g .square) i k) ≡ 0
 StepLeaves NotFinite k row q z copy dense z′ w =
-    (r : ℕ) × (pivotRow (w .choice) (w .n) k (λ i. (w .g .square) i k) ≡ suc r) × (soundWith (w .n) (w .n) k (suc r) (w .g) ≡ false)
+    (r : ℕ) × (pivotRow (w .choice) (w .p .height) k (λ i. (w .g .square) i k) ≡ suc r) × (soundWith (w .p .height) (w .n) k (suc r) (w .g) ≡ false)
 
 -- ---- back substitution
 
--- U and the diagonal show a square that is finite and holds +0 outside the slots; x has the right side.
+-- U and the diagonal show a square of n rows that is finite and holds +0 outside the slots; x has the right side.
 pub record SolveAsks (n : ℕ) (i : SideStores) (u d x : List Float) : Type 0 where
   pub s : Planning
   pub g : Going
   pub some : 1 ≤ n
   pub few : n ≤ 1024
   pub index : Indexed s upper n i
-  pub grid : Grid s n
+  pub grid : Grid s n n
   pub uppers : Shows s upper n (g .square) u
   pub diagonal : d ≡ shownDiagonal n (g .square)
   pub rights : x ≡ map (g .right) (upto n)

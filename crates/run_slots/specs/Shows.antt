@@ -32,11 +32,11 @@ abbrev pub squareStores : (l u d x : List Float) → SquareStores
 squareStores l u d x = record { lowerSlots = l; upperSlots = u; diagonal = d; rightSide = x }
 
 -- The four stores of a run show a square and a right side.
-pub record ShowsAll (s : Planning) (n : ℕ) (square : Square Float) (right : ℕ → Float) (z : SquareStores) : Type 0 where
+pub record ShowsAll (s : Planning) (n height : ℕ) (square : Square Float) (right : ℕ → Float) (z : SquareStores) : Type 0 where
   pub lowers : Shows s lower n square (z .lowerSlots)
   pub uppers : Shows s upper n square (z .upperSlots)
   pub diagonal : z .diagonal ≡ shownDiagonal n square
-  pub rights : z .rightSide ≡ map right (upto n)
+  pub rights : z .rightSide ≡ map right (upto height)
 
 -- A square that is finite and holds +0 at every place without a slot.
 pub record InSlots (s : Planning) (square : Square Float) : Type 0 where
@@ -46,7 +46,7 @@ pub record InSlots (s : Planning) (square : Square Float) : Type 0 where
 -- Where a run stands before step k: the stores show its square and right side, all of which is finite, and the invariant of the theorem that
 -- the slots suffice holds of the places whose bits are not +0's.
 pub record Stands (p : Pattern) (s : Planning) (n k : ℕ) (g : Going) (z : SquareStores) : Type 0 where
-  pub shows : ShowsAll s n (g .square) (g .right) z
+  pub shows : ShowsAll s n (p .height) (g .square) (g .right) z
   pub held : Held p (s .L) (s .U) k (marked isPlusZero (g .square))
   pub sound : (i j : ℕ) → finite ((g .square) i j) ≡ true
   pub right-sound : (i : ℕ) → finite ((g .right) i) ≡ true

@@ -21,6 +21,7 @@ use Rattle.foundation.specs.Subscripts.{kept}
 use Rattle.foundation.proofs.FloatSteps.{zero-plus-zero}
 use Rattle.store_place.specs.Places.{ListAsks, ListAt}
 use Rattle.run_slots.specs.Handing.{SolveAsks}
+use Rattle.run_slots.specs.Index.{limit}
 use Rattle.run_slots.proofs.Floats.{self-difference}
 use Rattle.run_slots.proofs.Grid.{no-slot-upper}
 use Rattle.run_slots.proofs.Mapped.{set-map}
@@ -67,6 +68,7 @@ module _ (n : ℕ) (stores : SideStores) (u d x₀ : List Float) (w : SolveAsks 
       -- what a row asks for
       pub row-asks : (size : ℕ) → n ≤ size → (length (partOf slot next u) ≡ length (partOf from to (stores .subs)))
           × Columns size (partOf from to (stores .subs))
+      unfolding limit
       row-asks size room =
           rw (row-values, row-columns) (
             length-map list ((w .g .square) i),
@@ -81,7 +83,7 @@ module _ (n : ℕ) (stores : SideStores) (u d x₀ : List Float) (w : SolveAsks 
       pub row-solved : (right : ℕ → Float) (x : List Float) → x ≡ map right (upto n) → (value : Float)
           → value ≡ quotient (lessAll (partOf slot next u) (partOf from to (stores .subs)) x (getD x (i - 1) nan)) (getD d (i - 1) nan)
           → value ≡ (solvedRow n (w .g .square) right i) .value
-      unfolding shownDiagonal
+      unfolding shownDiagonal limit
       row-solved right x e value is =
           is
           ∙ rw (row-values, row-columns, e, w .diagonal, map-upto-at right n i nan low high, map-upto-at (λ k. (w .g .square) k k) n i nan low high)

@@ -1,10 +1,12 @@
 -- Laws of the elimination of a step: column, rows of U and columns of L together make the reference's square.
+use mathlib.Core.Bool.{true}
 use mathlib.Core.List.{List, map}
 use mathlib.Core.Path.{_≡_, refl, sym, _∙_}
 use Prim.Native.Nat.{ℕ, suc, _*_, _^_, _≤_, _<_}
 use native.Mathlib.Omega.{arith}
 use lib.Ieee.{Float}
 use lib.ListN.{length}
+use Rattle.lists.specs.Sets.{member}
 use Rattle.lists.proofs.Order.{ascending-length}
 use Rattle.foundation.specs.Plan.{Side, lower, upper}
 use Rattle.foundation.specs.PlanCall.{SideStores, PlanStores}
@@ -13,13 +15,14 @@ use Rattle.foundation.specs.Shown.{atSide}
 use Rattle.foundation.specs.Subscripts.{kept}
 use Rattle.foundation.proofs.FloatSteps.{zero-plus-zero, eliminated-above}
 use Rattle.store_place.specs.Places.{ListAsks, ListAt}
+use Rattle.run_slots.specs.Index.{limit}
 use Rattle.run_slots.specs.Shows.{Shows, SquareStores, squareStores}
 use Rattle.run_slots.proofs.Grid.{above, no-slot-lower}
 use Rattle.run_slots.proofs.Lists.{partOf, patched, Lends, list-asks, list-lies, list-shows, list-written, list-lends}
 use Rattle.run_slots.proofs.Mapped.{map-cong}
 use Rattle.run_slots.proofs.Sound.{updates-count, flags-sound}
 use Rattle.run_sides.specs.Side.{divided, SideAsks, SideLeaves}
-use Rattle.run_sides.proofs.Steps.{divided-other, divided-column, upper-reduction, lower-reduction}
+use Rattle.run_sides.proofs.Steps.{divided-other, divided-column, in-rows, upper-reduction, lower-reduction}
 use Rattle.run_column.specs.Column.{ColumnAsks, ColumnLeaves}
 use Rattle.run_step.specs.Eliminating.{ElimAsks, ElimLeaves}
 
@@ -52,10 +55,14 @@ module _ (k : ℕ) (q : PlanStores) (z : SquareStores) (copy dense : List Float)
       → Lends U u from to slot next
   upper-lends from to slot next at = list-lends (w .s) upper (w .n) U (w .uppers) k (w .low) (w .high) from to slot next at (w .square) u (w .shows .uppers)
 
-  kept-few : (side : Side) → length (kept (w .s) side k) ≤ w .n
+  in-height : (side : Side) (x : ℕ) → member x (kept (w .s) side k) ≡ true → x ≤ w .height
+  in-height side = in-rows (w .s) (w .n) (w .height) (w .tall) (w .grid) side k
+
+  kept-few : (side : Side) → length (kept (w .s) side k) ≤ w .height
   kept-few side =
       let h = w .high in
-      omega (arith, ascending-length (suc k) (suc (w .n)) (kept (w .s) side k) (omega arith) (w .grid .ascends side k) (λ i m. omega (arith, w .grid .bounded side k i m)))
+      let t = w .tall in
+      omega (arith, ascending-length (suc k) (suc (w .height)) (kept (w .s) side k) (omega arith) (w .grid .ascends side k) (λ i m. omega (arith, in-height side i m)))
 
   module _ (l-from l-to l-slot l-next : ℕ) (column : ListAt (L .starts) (L .slotStarts) k l-from l-to l-slot l-next)
       (u-from u-to u-slot u-next : ℕ) (row : ListAt (U .starts) (U .slotStarts) k u-from u-to u-slot u-next) where
@@ -75,15 +82,18 @@ module _ (k : ℕ) (q : PlanStores) (z : SquareStores) (copy dense : List Float)
     -- ---- the column
 
     pub column-asks : ColumnAsks (partOf l-slot l-next l) rows columns (partOf u-slot u-next u) (z .diagonal) (z .rightSide) k
-    unfolding atSide
+    unfolding atSide limit
     column-asks =
         record {
           n = w .n;
+          height = w .height;
           square = w .square;
           right = w .right;
           low = w .low;
           high = w .high;
           few = w .few;
+          tall = w .tall;
+          rows-few = w .rows-few;
           rows-ascend = rw rows-are (w .grid .ascends lower k);
           rows-bounded = rw rows-are (w .grid .bounded lower k);
           columns-ascend = rw columns-are (w .grid .ascends upper k);
@@ -112,7 +122,7 @@ module _ (k : ℕ) (q : PlanStores) (z : SquareStores) (copy dense : List Float)
       divided-shows =
           list-written (w .s) lower (w .n) L (w .lowers) k (w .low) (w .high) l-from l-to l-slot l-next column (w .square) l (w .shows .lowers) (divided k (w .square))
           (λ j i a b ne m. divided-other k (w .square) i j ne) part′
-          (multipliers ∙ map-cong _ _ (kept (w .s) lower k) (λ i m. sym (divided-column k (w .square) i (above (w .s) (w .n) (w .grid) lower k i m))))
+          (multipliers ∙ map-cong _ _ (kept (w .s) lower k) (λ i m. sym (divided-column k (w .square) i (above (w .s) (w .n) (w .height) (w .grid) lower k i m))))
 
       -- ---- the rows of U
 
@@ -120,7 +130,7 @@ module _ (k : ℕ) (q : PlanStores) (z : SquareStores) (copy dense : List Float)
       unfolding atSide
       factors-are =
           list-shows (w .s) lower (w .n) L (w .lowers) k (w .low) (w .high) l-from l-to l-slot l-next column (divided k (w .square)) (patched l-slot l-next part′ l) divided-shows
-          ∙ map-cong _ _ (kept (w .s) lower k) (λ i m. divided-column k (w .square) i (above (w .s) (w .n) (w .grid) lower k i m))
+          ∙ map-cong _ _ (kept (w .s) lower k) (λ i m. divided-column k (w .square) i (above (w .s) (w .n) (w .height) (w .grid) lower k i m))
 
       pub upper-asks : SideAsks u U rows (partOf l-slot l-next (patched l-slot l-next part′ l)) copy dense k
       unfolding atSide
@@ -129,16 +139,18 @@ module _ (k : ℕ) (q : PlanStores) (z : SquareStores) (copy dense : List Float)
             s = w .s;
             side = upper;
             n = w .n;
+            height = w .height;
             old = w .square;
             new = eliminated k (w .square);
             low = w .low;
             high = w .high;
+            tall = w .tall;
             index = w .uppers;
             shows = w .shows .uppers;
             room = w .dense-size;
             fits = rw (w .copy-size) (kept-few upper);
-            bounded = w .grid .bounded upper k;
-            reduction = λ values store v s. rw rows-are (upper-reduction (w .s) (w .n) (w .grid) (w .square) (w .held) k (partOf l-slot l-next (patched l-slot l-next part′ l)) values store factors-are v s);
+            bounded = in-height upper;
+            reduction = λ values store v s. rw rows-are (upper-reduction (w .s) (w .n) (w .height) (w .tall) (w .grid) (w .square) (w .held) k (partOf l-slot l-next (patched l-slot l-next part′ l)) values store factors-are v s);
           }
 
       module _ (u′ : List Float) (f2 : ℕ)
@@ -164,16 +176,18 @@ module _ (k : ℕ) (q : PlanStores) (z : SquareStores) (copy dense : List Float)
                 s = w .s;
                 side = lower;
                 n = w .n;
+                height = w .height;
                 old = divided k (w .square);
                 new = eliminated k (w .square);
                 low = w .low;
                 high = w .high;
+                tall = w .tall;
                 index = w .lowers;
                 shows = divided-shows;
                 room = dense-same ∙ w .dense-size;
                 fits = rw (copy-same, w .copy-size) (kept-few lower);
-                bounded = w .grid .bounded lower k;
-                reduction = λ values store v s. rw columns-are (lower-reduction (w .s) (w .n) (w .grid) (w .square) (w .held) k (partOf u-slot u-next u′) values store row-is v s);
+                bounded = in-height lower;
+                reduction = λ values store v s. rw columns-are (lower-reduction (w .s) (w .n) (w .height) (w .tall) (w .grid) (w .square) (w .held) k (partOf u-slot u-next u′) values store row-is v s);
               }
 
           -- ---- all together
@@ -187,8 +201,8 @@ module _ (k : ℕ) (q : PlanStores) (z : SquareStores) (copy dense : List Float)
               let low-left = lowers lower-asks in
               record {
                 shows = record { lowers = low-left .shows; uppers = uppers-show; diagonal = column-left .diagonal; rights = column-left .rights };
-                flags = flags-sound (w .s) (w .n) (w .grid) (w .square) (w .held) k (w .right) (w .right-sound)
+                flags = flags-sound (w .s) (w .n) (w .height) (w .grid) (w .square) (w .held) k (w .right) (w .right-sound)
                     _ _ f1 f2 f3 refl refl (rw rows-are at (column-left .flags)) (rw rows-are at (uppers upper-asks .flags)) (rw columns-are at (low-left .flags));
-                counts = rw (rows-are, columns-are) at (column-left .counts) ∙ sym (updates-count (w .s) (w .n) (w .grid) (w .square) (w .held) k);
+                counts = rw (rows-are, columns-are) at (column-left .counts) ∙ sym (updates-count (w .s) (w .n) (w .height) (w .grid) (w .square) (w .held) k);
                 few = column-left .few;
               }

@@ -36,22 +36,22 @@ unfolding atSide
 side-self s lower n k square store h = shows-same s lower n square store h (exchanged k k square) (λ l x a b m. exchanged-self k square x l)
 side-self s upper n k square store h = shows-same s upper n square store h (exchanged k k square) (λ l x a b m. exchanged-self k square l x)
 
-pub shows-self : (s : Planning) (n k : ℕ) (square : Square Float) (right : ℕ → Float) (z : SquareStores) → ShowsAll s n square right z
-    → ShowsAll s n (exchanged k k square) (exchangedRight k k right) z
+pub shows-self : (s : Planning) (n height k : ℕ) (square : Square Float) (right : ℕ → Float) (z : SquareStores) → ShowsAll s n height square right z
+    → ShowsAll s n height (exchanged k k square) (exchangedRight k k right) z
 unfolding shownDiagonal exchangedRight
-shows-self s n k square right z h =
+shows-self s n height k square right z h =
     record {
       lowers = side-self s lower n k square (z .lowerSlots) (h .lowers);
       uppers = side-self s upper n k square (z .upperSlots) (h .uppers);
       diagonal = h .diagonal ∙ map-cong _ _ (upto n) (λ i m. sym (exchanged-self k square i i));
-      rights = h .rights ∙ map-cong _ _ (upto n) (λ i m. sym (ap right (swap-self k i)));
+      rights = h .rights ∙ map-cong _ _ (upto height) (λ i m. sym (ap right (swap-self k i)));
     }
 
 -- ---- the two ways
 
 module _ (k row place : ℕ) (q : PlanStores) (z : SquareStores) (w : BringAsks k row place q z) where
-  pub stays-there : row ≡ k → ShowsAll (w .s) (w .n) (exchanged k row (w .square)) (exchangedRight k row (w .right)) z
-  stays-there e = rw e (shows-self (w .s) (w .n) k (w .square) (w .right) z (w .shows))
+  pub stays-there : row ≡ k → ShowsAll (w .s) (w .n) (w .p .height) (exchanged k row (w .square)) (exchangedRight k row (w .right)) z
+  stays-there e = rw e (shows-self (w .s) (w .n) (w .p .height) k (w .square) (w .right) z (w .shows))
 
   module _ (other : row ≡ k → ⊥) where
     at-place : (place < length (kept (w .s) lower k)) × (row ≡ getD (kept (w .s) lower k) place 0)
@@ -67,6 +67,7 @@ module _ (k row place : ℕ) (q : PlanStores) (z : SquareStores) (w : BringAsks 
           right = w .right;
           layout = w .layout;
           low = w .low;
+          high = w .high;
           inside = at-place .0;
           shows = w .shows;
           outside = w .outside;
@@ -75,7 +76,7 @@ module _ (k row place : ℕ) (q : PlanStores) (z : SquareStores) (w : BringAsks 
 
     pub comes-there : (z′ : SquareStores)
         → ((v : ExchangeAsks k place q z)
-        → ShowsAll (v .s) (v .n) (exchanged k (getD (kept (v .s) lower k) place 0) (v .square)) (exchangedRight k (getD (kept (v .s) lower k) place 0) (v .right)) z′)
-        → ShowsAll (w .s) (w .n) (exchanged k row (w .square)) (exchangedRight k row (w .right)) z′
+        → ShowsAll (v .s) (v .n) (v .p .height) (exchanged k (getD (kept (v .s) lower k) place 0) (v .square)) (exchangedRight k (getD (kept (v .s) lower k) place 0) (v .right)) z′)
+        → ShowsAll (w .s) (w .n) (w .p .height) (exchanged k row (w .square)) (exchangedRight k row (w .right)) z′
     unfolding exchange-asks
     comes-there z′ left = rw (at-place .1) (left exchange-asks)

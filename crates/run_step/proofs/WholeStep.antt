@@ -25,6 +25,7 @@ use Rattle.foundation.proofs.FloatSteps.{pivot-found}
 use Rattle.store_place.specs.Places.{ListAsks, ListAt}
 use Rattle.run_slots.specs.Flags.{flagged}
 use Rattle.run_slots.specs.Handing.{StepAsks, StepLeaves}
+use Rattle.run_slots.specs.Index.{limit}
 use Rattle.run_slots.specs.Shows.{SquareStores, ShowsAll, InSlots, Stands}
 use Rattle.run_slots.specs.declared.StepEnd.the-variants.{Went}
 use Rattle.run_slots.proofs.Exchange.{outside-before, outside-after, held-next, pivot-listed, exchanged-outside}
@@ -94,7 +95,7 @@ module _ (k row : ℕ) (q : PlanStores) (z : SquareStores) (copy dense : List Fl
     rows-are = list-lies (w .s) lower (w .n) L (w .layout .lowers) k (w .low) (w .high) from to slot next column .opens
 
     pub pivot-asks : PivotAsks k row (getD (z .diagonal) (k - 1) nan) (partOf slot next l) rows
-    unfolding atSide shownDiagonal
+    unfolding atSide shownDiagonal limit
     pivot-asks =
         record {
           p = w .p;
@@ -102,7 +103,7 @@ module _ (k row : ℕ) (q : PlanStores) (z : SquareStores) (copy dense : List Fl
           choice = w .choice;
           entry = λ i. (w .g .square) i k;
           width = w .layout .width;
-          height = w .layout .height;
+          tall = w .layout .tall;
           fits = w .fits;
           low = w .low;
           high = w .high;
@@ -118,24 +119,24 @@ module _ (k row : ℕ) (q : PlanStores) (z : SquareStores) (copy dense : List Fl
     module _ (r place : ℕ)
         (found : (v : PivotAsks k row (getD (z .diagonal) (k - 1) nan) (partOf slot next l) rows)
         → PivotLeaves r place k row (getD (z .diagonal) (k - 1) nan) (partOf slot next l) rows v) where
-      row-is : r ≡ pivotRow (w .choice) (w .n) k (λ i. (w .g .square) i k)
+      row-is : r ≡ pivotRow (w .choice) (w .p .height) k (λ i. (w .g .square) i k)
       unfolding pivot-asks
       row-is = found pivot-asks .is
 
-      pub no-pivot : r ≡ 0 → pivotRow (w .choice) (w .n) k (λ i. (w .g .square) i k) ≡ 0
+      pub no-pivot : r ≡ 0 → pivotRow (w .choice) (w .p .height) k (λ i. (w .g .square) i k) ≡ 0
       no-pivot e = sym row-is ∙ e
 
       module _ (some : r ≡ 0 → ⊥) where
         reaches : (k ≤ r) × (mayPivot ((w .g .square) r k) ≡ true)
-        reaches = serves (w .p) (w .choice) (w .fits) k (w .low) (rw (w .layout .width) (w .high)) (λ i. (w .g .square) i k) r (rw (w .layout .height) row-is) some
+        reaches = serves (w .p) (w .choice) (w .fits) k (w .low) (rw (w .layout .width) (w .high)) (λ i. (w .g .square) i k) r row-is some
 
         after : (i j : ℕ) → hasSlot (w .s) i j ≡ false → eliminated k (exchanged k r (w .g .square)) i j ≡ plusZero
-        after = outside-after (w .p) (w .s) (w .layout .closed) k (w .low) (w .g) (w .stands .held) (w .n) (w .n) r (reaches .0) (reaches .1)
+        after = outside-after (w .p) (w .s) (w .layout .closed) k (w .low) (w .g) (w .stands .held) (w .p .height) (w .n) r (reaches .0) (reaches .1)
 
         stays : (i j : ℕ) → hasSlot (w .s) i j ≡ false → exchanged k r (w .g .square) i j ≡ plusZero
         stays i j e = elim (decLt k r) [
-          | yes b ↦ exchanged-outside (w .s) (w .n) (w .layout .grid) (w .g .square) k r out after b
-              (pivot-listed (w .p) (w .s) (w .layout .closed) k (w .low) (w .g) (w .stands .held) (w .n) (w .n) r (reaches .0) (reaches .1) b) i j e
+          | yes b ↦ exchanged-outside (w .s) (w .n) (w .p .height) (w .layout .grid) (w .g .square) k r out after b
+              (pivot-listed (w .p) (w .s) (w .layout .closed) k (w .low) (w .g) (w .stands .held) (w .p .height) (w .n) r (reaches .0) (reaches .1) b) i j e
           | no b ↦ let same : r ≡ k = omega (arith, reaches .0) in rw same (exchanged-self k (w .g .square) i j) ∙ out i j e
         ]
 
@@ -150,6 +151,7 @@ module _ (k row : ℕ) (q : PlanStores) (z : SquareStores) (copy dense : List Fl
               right = w .g .right;
               layout = w .layout;
               low = w .low;
+              high = w .high;
               found-at = ⊎-elim (λ e. absurd (some e)) (λ t. rw rows-are at t) (found pivot-asks .found-at);
               shows = w .stands .shows;
               outside = out;
@@ -167,18 +169,21 @@ module _ (k row : ℕ) (q : PlanStores) (z : SquareStores) (copy dense : List Fl
 
         module _ (z′ : SquareStores)
             (brought : (v : BringAsks k r place q z)
-            → ShowsAll (v .s) (v .n) (exchanged k r (v .square)) (exchangedRight k r (v .right)) z′) where
+            → ShowsAll (v .s) (v .n) (v .p .height) (exchanged k r (v .square)) (exchangedRight k r (v .right)) z′) where
           pub elim-asks : ElimAsks k q z′ copy dense
           unfolding bring-asks
           elim-asks =
               record {
                 s = w .s;
                 n = w .n;
+                height = w .p .height;
                 square = exchanged k r (w .g .square);
                 right = exchangedRight k r (w .g .right);
                 low = w .low;
                 high = w .high;
                 few = w .layout .few;
+                tall = w .layout .tall;
+                rows-few = w .layout .rows-few;
                 lowers = w .layout .lowers;
                 uppers = w .layout .uppers;
                 grid = w .layout .grid;
@@ -194,28 +199,28 @@ module _ (k row : ℕ) (q : PlanStores) (z : SquareStores) (copy dense : List Fl
           module _ (z″ : SquareStores) (flag updates : ℕ)
               (made : (v : ElimAsks k q z′ copy dense)
               → ElimLeaves k q z′ copy dense z″ flag updates v) where
-            flag-is : flag ≡ flagged 0 (soundStep (w .n) (w .n) k (exchanged k r (w .g .square)) (exchangedRight k r (w .g .right)))
+            flag-is : flag ≡ flagged 0 (soundStep (w .p .height) (w .n) k (exchanged k r (w .g .square)) (exchangedRight k r (w .g .right)))
             unfolding elim-asks
             flag-is = made elim-asks .flags
 
-            pub not-finite : (flag ≡ 0 → ⊥) → (t : ℕ) × (pivotRow (w .choice) (w .n) k (λ i. (w .g .square) i k) ≡ suc t) × (soundWith (w .n) (w .n) k (suc t) (w .g) ≡ false)
+            pub not-finite : (flag ≡ 0 → ⊥) → (t : ℕ) × (pivotRow (w .choice) (w .p .height) k (λ i. (w .g .square) i k) ≡ suc t) × (soundWith (w .p .height) (w .n) k (suc t) (w .g) ≡ false)
             unfolding soundWith
             not-finite up =
                 let e : r ≡ suc (r - 1) = omega (arith, reaches .0, w .low) in
                 (r - 1, sym row-is ∙ e, rw (← e) (flag-up _ flag flag-is up))
 
             module _ (down : flag ≡ 0) where
-              sound : soundStep (w .n) (w .n) k (exchanged k r (w .g .square)) (exchangedRight k r (w .g .right)) ≡ true
+              sound : soundStep (w .p .height) (w .n) k (exchanged k r (w .g .square)) (exchangedRight k r (w .g .right)) ≡ true
               sound = flag-down _ flag flag-is down
 
-              stands-next : Stands (w .p) (w .s) (w .n) (suc k) (stepped (w .n) (w .n) k r (w .g)) z″
+              stands-next : Stands (w .p) (w .s) (w .n) (suc k) (stepped (w .p .height) (w .n) k r (w .g)) z″
               unfolding stepped elim-asks
               stands-next =
                   record {
                     shows = made elim-asks .shows;
-                    held = held-next (w .p) (w .s) (w .layout .closed) k (w .low) (w .g) (w .stands .held) (w .n) (w .n) r (reaches .0) (reaches .1);
-                    sound = kept-next (w .s) (w .n) (w .layout .grid) (exchanged k r (w .g .square)) held-there k (exchangedRight k r (w .g .right)) right-there after sound .sound;
-                    right-sound = right-next (w .s) (w .n) (w .layout .grid) (exchanged k r (w .g .square)) held-there k (exchangedRight k r (w .g .right)) right-there sound;
+                    held = held-next (w .p) (w .s) (w .layout .closed) k (w .low) (w .g) (w .stands .held) (w .p .height) (w .n) r (reaches .0) (reaches .1);
+                    sound = kept-next (w .s) (w .n) (w .p .height) (w .layout .grid) (exchanged k r (w .g .square)) held-there k (exchangedRight k r (w .g .right)) right-there after sound .sound;
+                    right-sound = right-next (w .s) (w .n) (w .p .height) (w .layout .grid) (exchanged k r (w .g .square)) held-there k (exchangedRight k r (w .g .right)) right-there sound;
                   }
 
               pub went : StepLeaves (Went r updates) k row q z copy dense z″ w

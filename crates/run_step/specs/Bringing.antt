@@ -26,12 +26,13 @@ pub record BringAsks (k row place : ℕ) (q : PlanStores) (z : SquareStores) : T
   pub right : ℕ → Float
   pub layout : Layout p s n q
   pub low : 1 ≤ k
+  pub high : k ≤ n
   pub found-at : (row ≡ k) ⊎ ((place < length (kept s lower k)) × (row ≡ getD (kept s lower k) place 0))
-  pub shows : ShowsAll s n square right z
+  pub shows : ShowsAll s n (p .height) square right z
   pub outside : (i j : ℕ) → hasSlot s i j ≡ false → square i j ≡ plusZero
   pub stays : (i j : ℕ) → hasSlot s i j ≡ false → exchanged k row square i j ≡ plusZero
 
 -- Document 01, "Elimination": "Rows k and p are exchanged in columns k to n and in the right side; earlier multipliers are not moved."
 abbrev pub BringLeaves : (k row place : ℕ) (q : PlanStores) (z z′ : SquareStores) → BringAsks k row place q z → Type 0
 BringLeaves k row place q z z′ w =
-    ShowsAll (w .s) (w .n) (exchanged k row (w .square)) (exchangedRight k row (w .right)) z′
+    ShowsAll (w .s) (w .n) (w .p .height) (exchanged k row (w .square)) (exchangedRight k row (w .right)) z′

@@ -10,8 +10,8 @@ use store_place::list_place;
 mod bringing;
 mod eliminating;
 
-// Step k by the row that the choice names, 0 where the largest entry decides. `copy` has n places, `dense` n+1, which are +0 before and
-// afterwards, however the step ends.
+// Step k by the row that the choice names, 0 where the largest entry decides. `copy` has a place for each row, `dense` one more, which
+// are +0 before and afterwards, however the step ends.
 pub fn step(
     k: usize,
     row: usize,

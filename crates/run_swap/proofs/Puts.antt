@@ -40,9 +40,9 @@ module _ (i j : ℕ) (v : Float) (square : Square Float) where
 
 -- ---- the four stores
 
-module _ (s : Planning) (n : ℕ) (square : Square Float) (right : ℕ → Float) (z : SquareStores) (h : ShowsAll s n square right z) where
+module _ (s : Planning) (n height : ℕ) (square : Square Float) (right : ℕ → Float) (z : SquareStores) (h : ShowsAll s n height square right z) where
   -- a square that is the same at every place
-  pub shows-all-same : (square' : Square Float) → ((i j : ℕ) → square' i j ≡ square i j) → ShowsAll s n square' right z
+  pub shows-all-same : (square' : Square Float) → ((i j : ℕ) → square' i j ≡ square i j) → ShowsAll s n height square' right z
   unfolding atSide shownDiagonal
   shows-all-same square' same =
       record {
@@ -56,8 +56,8 @@ module _ (s : Planning) (n : ℕ) (square : Square Float) (right : ℕ → Float
   unfolding shownDiagonal
   diagonal-size = ap length (h .diagonal) ∙ length-map-upto (λ i. square i i) n
 
-  pub rights-size : length (z .rightSide) ≡ n
-  rights-size = ap length (h .rights) ∙ length-map-upto right n
+  pub rights-size : length (z .rightSide) ≡ height
+  rights-size = ap length (h .rights) ∙ length-map-upto right height
 
   -- reading a place
   pub read-lower : (i j q : ℕ) → 1 ≤ j → j ≤ n → SlotOf s lower j i q → getD (z .lowerSlots) q nan ≡ square i j
@@ -80,7 +80,7 @@ module _ (s : Planning) (n : ℕ) (square : Square Float) (right : ℕ → Float
   upper-inside i j q low high w = omega (arith, w .is, w .inside, part-inside s upper n square (z .upperSlots) (h .uppers) i low high)
 
   -- writing a place
-  module _ (grid : Grid s n) where
+  module _ (grid : Grid s n height) where
     diagonal-put : (i j : ℕ) (v : Float) → (i ≡ j → ⊥) → z .diagonal ≡ shownDiagonal n (put i j v square)
     unfolding shownDiagonal
     diagonal-put i j v other =
@@ -90,15 +90,15 @@ module _ (s : Planning) (n : ℕ) (square : Square Float) (right : ℕ → Float
     unfolding atSide
     lowers-put i j v le =
         shows-same s lower n square (z .lowerSlots) (h .lowers) (put i j v square)
-        (λ k y a b m. put-apart i j v square y k (λ p q. omega (arith, above s n grid lower k y m)))
+        (λ k y a b m. put-apart i j v square y k (λ p q. omega (arith, above s n height grid lower k y m)))
 
     uppers-put : (i j : ℕ) (v : Float) → j ≤ i → Shows s upper n (put i j v square) (z .upperSlots)
     unfolding atSide
     uppers-put i j v le =
         shows-same s upper n square (z .upperSlots) (h .uppers) (put i j v square)
-        (λ k y a b m. put-apart i j v square k y (λ p q. omega (arith, above s n grid upper k y m)))
+        (λ k y a b m. put-apart i j v square k y (λ p q. omega (arith, above s n height grid upper k y m)))
 
-    pub put-lower : (i j q : ℕ) (v : Float) → j < i → 1 ≤ j → j ≤ n → SlotOf s lower j i q → ShowsAll s n (put i j v square) right (squareStores (set (z .lowerSlots) q v) (z .upperSlots) (z .diagonal) (z .rightSide))
+    pub put-lower : (i j q : ℕ) (v : Float) → j < i → 1 ≤ j → j ≤ n → SlotOf s lower j i q → ShowsAll s n height (put i j v square) right (squareStores (set (z .lowerSlots) q v) (z .upperSlots) (z .diagonal) (z .rightSide))
     unfolding atSide
     put-lower i j q v lt low high w =
         record {
@@ -111,7 +111,7 @@ module _ (s : Planning) (n : ℕ) (square : Square Float) (right : ℕ → Float
           rights = h .rights;
         }
 
-    pub put-upper : (i j q : ℕ) (v : Float) → i < j → 1 ≤ i → i ≤ n → SlotOf s upper i j q → ShowsAll s n (put i j v square) right (squareStores (z .lowerSlots) (set (z .upperSlots) q v) (z .diagonal) (z .rightSide))
+    pub put-upper : (i j q : ℕ) (v : Float) → i < j → 1 ≤ i → i ≤ n → SlotOf s upper i j q → ShowsAll s n height (put i j v square) right (squareStores (z .lowerSlots) (set (z .upperSlots) q v) (z .diagonal) (z .rightSide))
     unfolding atSide
     put-upper i j q v lt low high w =
         record {
@@ -124,7 +124,7 @@ module _ (s : Planning) (n : ℕ) (square : Square Float) (right : ℕ → Float
           rights = h .rights;
         }
 
-    pub put-diagonal : (i : ℕ) (v : Float) → 1 ≤ i → i ≤ n → ShowsAll s n (put i i v square) right (squareStores (z .lowerSlots) (z .upperSlots) (set (z .diagonal) (i - 1) v) (z .rightSide))
+    pub put-diagonal : (i : ℕ) (v : Float) → 1 ≤ i → i ≤ n → ShowsAll s n height (put i i v square) right (squareStores (z .lowerSlots) (z .upperSlots) (set (z .diagonal) (i - 1) v) (z .rightSide))
     unfolding shownDiagonal
     put-diagonal i v low high =
         record {

@@ -31,7 +31,8 @@ pub fn swap_within(y: &mut [f64], i: usize, j: usize)
     y[j] = v;
 }
 
-// Rows k and p in the columns of U_k before p, where row p lies in L; `cell` has p among the subscripts. Returns where p stands in U_k.
+// Rows k and p in the columns of U_k before p, where row p lies in L; `cell` has p among the subscripts. Returns where p stands in U_k. A row
+// above n is no column and lies in L alone: all of U_k is before it, and its length is returned.
 pub fn swap_before(
     us: &[usize],
     first: SlotPlace,
@@ -48,8 +49,12 @@ pub fn swap_before(
         → BeforeLeaves r _ _ _ _ _ _ (now (l .exit)) (now (u .exit)) w) ⌝ }
 {
     let mut t = 0;
-    while us[t] != p {
-        let slot = slot_of(l_subs, l_starts, l_slots, us[t], p, cell);
+    while t < us.len() {
+        let j = us[t];
+        if p <= j {
+            return t;
+        }
+        let slot = slot_of(l_subs, l_starts, l_slots, j, p, cell);
         let q = slot.0;
         let i = first.0 + t;
         let v = u[i];

@@ -56,35 +56,39 @@ linked-next links x (y ∷ ys) d h = (ys, rw (h .0), rw (h .0) (h .2), rw (h .0)
 -- ---- all chains
 
 -- the chains of stores of zeros are empty
-pub chained-none : (n : ℕ) → Chained (replicate (suc n) 0) (replicate (suc n) 0) n (λ k. [])
+pub chained-none : (last n : ℕ) → n ≤ last → Chained (replicate (suc last) 0) (replicate (suc last) 0) last n (λ k. [])
 unfolding Linked
-chained-none n = record {
-  heads-size = length-replicate (suc n) 0;
-  links-size = length-replicate (suc n) 0;
-  chain-at = λ k low high. getD-replicate (suc n) k 0 0 (omega arith);
+chained-none last n within = record {
+  heads-size = length-replicate (suc last) 0;
+  links-size = length-replicate (suc last) 0;
+  within = within;
+  chain-at = λ k low high. getD-replicate (suc last) k 0 0 (omega arith);
 }
 
 -- only the lists of 1 to n count
-pub chained-cong : (heads links : List ℕ) (n : ℕ) (lists lists′ : ℕ → List ℕ) → ((k : ℕ) → 1 ≤ k → k ≤ n → lists k ≡ lists′ k)
-    → Chained heads links n lists → Chained heads links n lists′
-chained-cong heads links n lists lists′ same h = record {
+pub chained-cong : (heads links : List ℕ) (last n : ℕ) (lists lists′ : ℕ → List ℕ) → ((k : ℕ) → 1 ≤ k → k ≤ n → lists k ≡ lists′ k)
+    → Chained heads links last n lists → Chained heads links last n lists′
+chained-cong heads links last n lists lists′ same h = record {
   heads-size = h .heads-size;
   links-size = h .links-size;
+  within = h .within;
   chain-at = λ k low high. rw (same k low high) at (h .chain-at k low high);
 }
 
 -- who is in no list may join one
-pub chained-push : (heads links : List ℕ) (n : ℕ) (lists : ℕ → List ℕ) (k x : ℕ) → 1 ≤ k → k ≤ n → 1 ≤ x → x ≤ n
-    → ((j : ℕ) → 1 ≤ j → j ≤ n → member x (lists j) ≡ true → ⊥) → Chained heads links n lists
-    → Chained (set heads k x) (set links x (getD heads k 0)) n (update lists k (x ∷ lists k))
+pub chained-push : (heads links : List ℕ) (last n : ℕ) (lists : ℕ → List ℕ) (k x : ℕ) → 1 ≤ k → k ≤ n → 1 ≤ x → x ≤ last
+    → ((j : ℕ) → 1 ≤ j → j ≤ n → member x (lists j) ≡ true → ⊥) → Chained heads links last n lists
+    → Chained (set heads k x) (set links x (getD heads k 0)) last n (update lists k (x ∷ lists k))
 unfolding Linked
-chained-push heads links n lists k x low high some few out h =
+chained-push heads links last n lists k x low high some few out h =
     let hs = h .heads-size in
     let ls = h .links-size in
+    let fit = h .within in
     let v = getD heads k 0 in
     record {
       heads-size = simp length-set hs;
       links-size = simp length-set ls;
+      within = fit;
       chain-at = λ j l u. by-test (eqb j k)
           (λ e.
           let q : j ≡ k = eqb-true j k e in
@@ -96,13 +100,16 @@ chained-push heads links n lists k x low high some few out h =
     }
 
 -- a chain is emptied
-pub chained-drop : (heads links : List ℕ) (n : ℕ) (lists : ℕ → List ℕ) (k : ℕ) → 1 ≤ k → k ≤ n → Chained heads links n lists → Chained (set heads k 0) links n (update lists k [])
+pub chained-drop : (heads links : List ℕ) (last n : ℕ) (lists : ℕ → List ℕ) (k : ℕ) → 1 ≤ k → k ≤ n → Chained heads links last n lists
+    → Chained (set heads k 0) links last n (update lists k [])
 unfolding Linked
-chained-drop heads links n lists k low high h =
+chained-drop heads links last n lists k low high h =
     let hs = h .heads-size in
+    let fit = h .within in
     record {
       heads-size = simp length-set hs;
       links-size = h .links-size;
+      within = fit;
       chain-at = λ j l u. by-test (eqb j k)
           (λ e. let q : j ≡ k = eqb-true j k e in rw (q, update-same lists k []) (getD-set-same heads k 0 0 (omega arith)))
           (λ e. rw (update-untouched lists k [] j e, getD-set-other heads k j 0 0 (eqb-false j k e)) (h .chain-at j l u));

@@ -12,10 +12,11 @@ unfoldable pub Linked : List ℕ → ℕ → List ℕ → Type 0
 Linked links x [] = x ≡ 0
 Linked links x (y ∷ ys) = (x ≡ y) × (0 < y) × (y < length links) × Linked links (getD links y 0) ys
 
--- the chains of 1 to n are these lists
-pub record Chained (heads links : List ℕ) (n : ℕ) (lists : ℕ → List ℕ) : Type 0 where
-  pub heads-size : length heads ≡ suc n
-  pub links-size : length links ≡ suc n
+-- the chains of 1 to n are these lists, in stores that have a place for each number up to `last`
+pub record Chained (heads links : List ℕ) (last n : ℕ) (lists : ℕ → List ℕ) : Type 0 where
+  pub heads-size : length heads ≡ suc last
+  pub links-size : length links ≡ suc last
+  pub within : n ≤ last
   pub chain-at : (k : ℕ) → 1 ≤ k → k ≤ n → Linked links (getD heads k 0) (lists k)
 
 -- how many members the lists L_l and U_l have by the starts of their slots, l itself included

@@ -1,7 +1,7 @@
 -- The answer about a lent plan: the judgement, the stores' lengths, then the steps and the counts.
 use mathlib.Core.Bool.{Bool, true, false}
 use mathlib.Core.List.{List}
-use mathlib.Core.Path.{_≡_, refl, sym, ap, _∙_}
+use mathlib.Core.Path.{_≡_, refl, sym, ap, subst, _∙_}
 use Prim.Native.Nat.{ℕ, suc, _-_, _<_}
 use native.Mathlib.Omega.{arith}
 use lib.ListN.{length, getD}
@@ -11,22 +11,22 @@ use Rattle.foundation.specs.Answer.{refused, granted, refuseIf, andThen}
 use Rattle.foundation.specs.Pattern.{Lent, lent, patternOf, patternFault, judged}
 use Rattle.foundation.specs.Plan.{Planning, lower, upper, after}
 use Rattle.foundation.specs.Slots.{slotsOf, slotStarts}
-use Rattle.foundation.specs.PlanCall.{Counts, LentPlan, WorkSizes, subscripts, countsOf, sizesFit, sameCounts, sameSide, agrees, held}
+use Rattle.foundation.specs.PlanCall.{Counts, LentPlan, WorkSizes, subscripts, countsOf, sizesFit, sameCounts, sameSide, agrees, heldIf, held}
 use Rattle.answers.specs.Answers.{counted, countsIn, refusalOf, verifyAnswerOf, verifyAnswer}
 use Rattle.answers.specs.Stores.{lentPlan, planStores, workSizes, workStores}
 use Rattle.answers.specs.declared.PlanCounts.{PlanCounts}
 use Rattle.answers.specs.declared.Refusal.{Refusal}
-use Rattle.answers.specs.declared.Refusal.the-variants.{Limits, Starts, Column, Order, Diagonal, Stores, LowerRoom, UpperRoom, OtherPlan}
+use Rattle.answers.specs.declared.Refusal.the-variants.{Limits, Height, Starts, Column, Order, Diagonal, Stores, LowerRoom, UpperRoom, OtherPlan}
 use Rattle.answers.specs.declared.VerifyAnswer.the-variants.{Agrees, Refused}
 use Rattle.store_clear.specs.Clearing.{Zeros}
 use Rattle.store_lists.specs.Chains.{Chained}
-use Rattle.plan_gather.specs.Ready.{Ready, planOf}
+use Rattle.plan_gather.specs.Ready.{lentBy, Ready, planOf}
 use Rattle.plan_gather.specs.Contains.{used}
 use Rattle.plan_gather.specs.Steps.{unmetAt, ChainsAt, EndsAre, chainStores}
 use Rattle.plan_pattern.specs.Sizes.{lengthsFit}
 use Rattle.plan_gather.proofs.Progress.{counted-all, chains-begin}
 use Rattle.plan_pattern.proofs.Sizing.{fit-lengths, sizes-fit}
-use Rattle.plan_gather.proofs.Passing.{fault-ready}
+use Rattle.plan_gather.proofs.Passing.{ready, fault-starts, fault-height, fault-ready}
 use Rattle.verify_loop.specs.Progress.{BothContain}
 use Rattle.verify_loop.proofs.Progress.{contains-same, same-contains, LentSizes}
 
@@ -36,6 +36,7 @@ use Rattle.verify_loop.proofs.Progress.{contains-same, same-contains, LentSizes
 refusal-any : (r : Refusal) → refusalOf {A = Unit {0}} r ≡ andThen (refusalOf {A = Counts} r) (λ c. granted tt)
 unfolding refusalOf andThen
 refusal-any Limits = refl
+refusal-any Height = refl
 refusal-any Starts = refl
 refusal-any Column = refl
 refusal-any Order = refl
@@ -47,19 +48,19 @@ refusal-any OtherPlan = refl
 
 module _ (most : ℕ) (p : Lent) (q : LentPlan) (work : WorkSizes) where
   held-fault : (patternFault most p ≡ 0 → ⊥) → held most p q work ≡ refused (patternFault most p) 0
-  unfolding held judged andThen
+  unfolding held heldIf judged andThen
   held-fault h = rw (ne-eqb (patternFault most p) 0 h)
 
   held-sizes : patternFault most p ≡ 0 → sizesFit p (q .stores) work ≡ false → held most p q work ≡ refused 6 0
-  unfolding held judged andThen refuseIf
+  unfolding held heldIf judged andThen refuseIf
   held-sizes e f = rw (e, f)
 
   held-other : patternFault most p ≡ 0 → sizesFit p (q .stores) work ≡ true → agrees p (planOf p) q ≡ false → held most p q work ≡ refused 9 0
-  unfolding held judged andThen refuseIf planOf
+  unfolding held heldIf judged andThen refuseIf planOf
   held-other e f g = rw (e, f, g)
 
   held-granted : patternFault most p ≡ 0 → sizesFit p (q .stores) work ≡ true → agrees p (planOf p) q ≡ true → held most p q work ≡ granted (planOf p)
-  unfolding held judged andThen refuseIf planOf
+  unfolding held heldIf judged andThen refuseIf planOf
   held-granted e f g = rw (e, f, g)
 
 module _ (p : Lent) (lSubs lStarts lSlots uSubs uStarts uSlots : List ℕ) (counts : Counts) where
@@ -102,7 +103,7 @@ module _ (p : Lent) (lSubs lStarts lSlots uSubs uStarts uSlots : List ℕ) (coun
   -- the counts of a plan that the stores contain
   pub planned-counts :
       Ready p → (l u reads : ℕ) → EndsAre p (p .n) l u reads → BothContain p (p .n) (p .n) (planStores lSubs lStarts lSlots uSubs uStarts uSlots)
-      → counted (p .n) (length (p .columns)) l u (getD lSlots (p .n) 0) (getD uSlots (p .n) 0) reads ≡ countsOf p (planOf p)
+      → counted (p .n) (p .height) (length (p .columns)) l u (getD lSlots (p .n) 0) (getD uSlots (p .n) 0) reads ≡ countsOf p (planOf p)
   unfolding countsOf subscripts used
   planned-counts ready l u reads ends both =
       let s : Planning = planOf p in
@@ -111,9 +112,9 @@ module _ (p : Lent) (lSubs lStarts lSlots uSubs uStarts uSlots : List ℕ) (coun
       let r : reads ≡ s .reads = ends .read ∙ counted-all p ready in
       rw (a, b, ends .lower-end, ends .upper-end, r)
 
-module _ (most n : ℕ) (starts columns : List ℕ) (counts : PlanCounts) (lSubs lStarts lSlots uSubs uStarts uSlots rowHeads rowLinks setHeads setLinks list spare : List ℕ) where
+module _ (most n height : ℕ) (starts columns : List ℕ) (counts : PlanCounts) (lSubs lStarts lSlots uSubs uStarts uSlots rowHeads rowLinks setHeads setLinks list spare : List ℕ) where
   abbrev pattern : Lent
-  pattern = lent n starts columns
+  pattern = lent n height starts columns
 
   abbrev lentOne : LentPlan
   lentOne = lentPlan counts (planStores lSubs lStarts lSlots uSubs uStarts uSlots)
@@ -123,7 +124,7 @@ module _ (most n : ℕ) (starts columns : List ℕ) (counts : PlanCounts) (lSubs
 
   abbrev fit : Bool
   fit =
-      lengthsFit n (length lStarts) (length lSlots) (length uStarts) (length uSlots) (length rowHeads) (length rowLinks) (length setHeads) (length setLinks)
+      lengthsFit n height (length lStarts) (length lSlots) (length uStarts) (length uSlots) (length rowHeads) (length rowLinks) (length setHeads) (length setLinks)
       (length list) (length spare)
 
   -- refusals 1 to 5
@@ -140,40 +141,54 @@ module _ (most n : ℕ) (starts columns : List ℕ) (counts : PlanCounts) (lSubs
     passes = sym told ∙ passed
 
     verify-ready : Ready pattern
-    verify-ready = fault-ready most n starts columns fault told passed
+    verify-ready = ready most pattern passes
+
+    -- the functions inside are told of the rows by their starts
+    same-pattern : pattern ≡ lentBy n starts columns
+    same-pattern = fault-height most n height starts columns fault told passed
+
+    starts-long : length starts ≡ suc height
+    starts-long = fault-starts most n height starts columns fault told passed
+
+    rows-told : height ≡ lentBy n starts columns .height
+    unfolding lentBy lent
+    rows-told = omega (arith, starts-long)
+
+    ready-inside : Ready (lentBy n starts columns)
+    ready-inside = fault-ready most n height starts columns fault told passed
 
     -- refusal 6
     pub verify-sizes : (fits : Bool) → fits ≡ fit → fits ≡ false → verifyAnswerOf (Refused Stores) ≡ verifyAnswer (held most pattern lentOne sizes)
     unfolding verifyAnswerOf verifyAnswer andThen refusalOf
     verify-sizes fits e f =
         rw (held-sizes most pattern lentOne sizes passes
-        (sizes-fit n starts columns lSubs lStarts lSlots uSubs uStarts uSlots rowHeads rowLinks setHeads setLinks list spare ∙ sym e ∙ f))
+        (sizes-fit n height starts columns lSubs lStarts lSlots uSubs uStarts uSlots rowHeads rowLinks setHeads setLinks list spare ∙ sym e ∙ f))
 
     module _ (fits : Bool) (tested : fits ≡ fit) (fitted : fits ≡ true) where
       all-fit : sizesFit pattern (lentOne .stores) sizes ≡ true
-      all-fit = sizes-fit n starts columns lSubs lStarts lSlots uSubs uStarts uSlots rowHeads rowLinks setHeads setLinks list spare ∙ sym tested ∙ fitted
+      all-fit = sizes-fit n height starts columns lSubs lStarts lSlots uSubs uStarts uSlots rowHeads rowLinks setHeads setLinks list spare ∙ sym tested ∙ fitted
 
       -- what chaining the rows takes for granted
-      pub verify-rows-ask : Ready pattern × ((length rowHeads ≡ suc n) × (length rowLinks ≡ suc n))
+      pub verify-rows-ask : Ready (lentBy n starts columns) × ((length rowHeads ≡ length starts) × (length rowLinks ≡ length starts))
       verify-rows-ask =
-          let f = fit-lengths n _ _ _ _ _ _ _ _ _ _ (sym tested ∙ fitted) in
-          (verify-ready, (f .row-heads, f .row-links))
+          let f = fit-lengths n height _ _ _ _ _ _ _ _ _ _ (sym tested ∙ fitted) in
+          (ready-inside, (f .row-heads ∙ sym starts-long, f .row-links ∙ sym starts-long))
 
       -- what the steps take for granted
       pub verify-steps-ask :
-          {rowHeads′ rowLinks′ setHeads′ setLinks′ : List ℕ} → Chained rowHeads′ rowLinks′ n (unmetAt pattern (after (patternOf pattern) 0))
+          {rowHeads′ rowLinks′ setHeads′ setLinks′ : List ℕ} → Chained rowHeads′ rowLinks′ (lentBy n starts columns .height) n (unmetAt (lentBy n starts columns) (after (patternOf (lentBy n starts columns)) 0))
           → Zeros setHeads setHeads′ × Zeros setLinks setLinks′
-          → (Ready pattern × ChainsAt pattern n 0 (chainStores rowHeads′ rowLinks′ setHeads′ setLinks′)) × LentSizes n lStarts lSlots uStarts uSlots list spare
+          → (Ready (lentBy n starts columns) × ChainsAt (lentBy n starts columns) n 0 (chainStores rowHeads′ rowLinks′ setHeads′ setLinks′)) × LentSizes n (lentBy n starts columns .height) lStarts lSlots uStarts uSlots list spare
       verify-steps-ask rows sets =
-          let f = fit-lengths n _ _ _ _ _ _ _ _ _ _ (sym tested ∙ fitted) in (
-            (verify-ready, chains-begin setHeads setLinks rows (f .set-heads) (f .set-links) sets),
-            (f .l-starts, f .l-slots, f .u-starts, f .u-slots, f .list-is, f .spare-is),
+          let f = fit-lengths n height _ _ _ _ _ _ _ _ _ _ (sym tested ∙ fitted) in (
+            (ready-inside, chains-begin setHeads setLinks rows (f .set-heads ∙ ap suc rows-told) (f .set-links ∙ ap suc rows-told) sets),
+            (f .l-starts, f .l-slots, f .u-starts, f .u-slots, f .list-is ∙ rows-told, f .spare-is ∙ rows-told),
           )
 
       -- place n of the starts of the slots can be read
       pub verify-places : (n < length lSlots) × (n < length uSlots)
       verify-places =
-          let f = fit-lengths n _ _ _ _ _ _ _ _ _ _ (sym tested ∙ fitted) in
+          let f = fit-lengths n height _ _ _ _ _ _ _ _ _ _ (sym tested ∙ fitted) in
           (omega (arith, f .l-slots), omega (arith, f .u-slots))
 
       -- refusal 9, where a plan that agrees is none
@@ -187,19 +202,23 @@ module _ (most n : ℕ) (starts columns : List ℕ) (counts : PlanCounts) (lSubs
           → (sameCounts (countsIn counts) (countsOf pattern (planOf pattern)) ≡ true) × BothContain pattern n n (planStores lSubs lStarts lSlots uSubs uStarts uSlots)
       unfolding lent
       agreed e =
-          let f = fit-lengths n _ _ _ _ _ _ _ _ _ _ (sym tested ∙ fitted) in
+          let f = fit-lengths n height _ _ _ _ _ _ _ _ _ _ (sym tested ∙ fitted) in
           agrees-contains pattern lSubs lStarts lSlots uSubs uStarts uSlots (countsIn counts) (f .l-starts) (f .l-slots) (f .u-starts) (f .u-slots) e
 
       -- for a store that differs
       pub verify-differs :
-          (BothContain pattern n n (planStores lSubs lStarts lSlots uSubs uStarts uSlots) → ⊥)
+          (BothContain (lentBy n starts columns) n n (planStores lSubs lStarts lSlots uSubs uStarts uSlots) → ⊥)
           → verifyAnswerOf (Refused OtherPlan) ≡ verifyAnswer (held most pattern lentOne sizes)
-      verify-differs h = other (λ e. h (agreed e .1))
+      verify-differs h = other (λ e. h (rw same-pattern at (agreed e .1)))
 
       module _ (made : PlanCounts) (l u reads : ℕ)
-          (ended : EndsAre pattern n l u reads × BothContain pattern n n (planStores lSubs lStarts lSlots uSubs uStarts uSlots))
-          (counted : countsIn made ≡ counted n (length columns) l u (getD lSlots n 0) (getD uSlots n 0) reads) (matches : Bool)
+          (ended′ : EndsAre (lentBy n starts columns) n l u reads × BothContain (lentBy n starts columns) n n (planStores lSubs lStarts lSlots uSubs uStarts uSlots))
+          (counted : countsIn made ≡ counted n height (length columns) l u (getD lSlots n 0) (getD uSlots n 0) reads) (matches : Bool)
           (compared : matches ≡ sameCounts (countsIn counts) (countsIn made)) where
+        ended : EndsAre pattern n l u reads × BothContain pattern n n (planStores lSubs lStarts lSlots uSubs uStarts uSlots)
+        ended =
+            subst (λ (p : Lent). EndsAre p n l u reads × BothContain p n n (planStores lSubs lStarts lSlots uSubs uStarts uSlots)) (sym same-pattern) ended′
+
         -- the test is on the plan's counts
         all-counts : matches ≡ sameCounts (countsIn counts) (countsOf pattern (planOf pattern))
         unfolding lent

@@ -1,4 +1,4 @@
-// The answer about a lent plan: refusals 1 to 6, then the steps and the counts.
+// The answer about a lent plan: refusals 1 to 6 and 25, then the steps and the counts.
 ghost use mathlib.Core.Path.{_≡_};
 ghost use Rattle.foundation.specs.Pattern.{lent};
 ghost use Rattle.foundation.specs.PlanCall.{held};
@@ -21,6 +21,7 @@ use verify_loop::verify_steps;
 pub fn judge_and_verify(
     most: usize,
     n: usize,
+    height: usize,
     starts: &[usize],
     columns: &[usize],
     counts: PlanCounts,
@@ -37,19 +38,20 @@ pub fn judge_and_verify(
     list: &mut [usize],
     spare: &mut [usize],
 ) -> VerifyAnswer
-    ensures { λ r. ⌜ verifyAnswerOf r ≡ verifyAnswer (held most (lent n (now (starts .entry)) (now (columns .entry)))
+    ensures { λ r. ⌜ verifyAnswerOf r ≡ verifyAnswer (held most (lent n height (now (starts .entry)) (now (columns .entry)))
         (lentPlan counts
         (planStores (now («l_subs» .entry)) (now («l_starts» .entry)) (now («l_slots» .entry))
         (now («u_subs» .entry)) (now («u_starts» .entry)) (now («u_slots» .entry))))
         (workSizes (workStores (now («row_heads» .entry)) (now («row_links» .entry)) (now («set_heads» .entry))
         (now («set_links» .entry)) (now (list .entry)) (now (spare .entry))))) ⌝ }
 {
-    let fault = pattern_fault(most, n, starts, columns);
+    let fault = pattern_fault(most, n, height, starts, columns);
     if fault != 0 {
         return VerifyAnswer::Refused(refusal_of(fault));
     }
     if !lengths_fit(
         n,
+        height,
         l_starts.len(),
         l_slots.len(),
         u_starts.len(),
@@ -85,13 +87,16 @@ pub fn judge_and_verify(
     let Compared::Agrees(l_end, u_end, reads) = ended else {
         return VerifyAnswer::Refused(Refusal::OtherPlan);
     };
+    let l_last = l_slots[n];
+    let u_last = u_slots[n];
     let made = PlanCounts {
         n,
+        height,
         entries: columns.len(),
         l_subscripts: l_end.0,
         u_subscripts: u_end.0,
-        l_slots: l_slots[n],
-        u_slots: u_slots[n],
+        l_slots: l_last,
+        u_slots: u_last,
         reads,
     };
     if !same_counts(counts, made) {

@@ -11,6 +11,9 @@ pub fn same_counts(a: PlanCounts, b: PlanCounts) -> bool
     if a.n != b.n {
         return false;
     }
+    if a.height != b.height {
+        return false;
+    }
     if a.entries != b.entries {
         return false;
     }

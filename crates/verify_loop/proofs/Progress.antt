@@ -37,16 +37,16 @@ module _ {p : Lent} {n k l u reads : ℕ} {stores : PlanStores} (step : StepOf p
   -- its lists are made
   pub verify-lists-ask :
       {rowHeads rowLinks setHeads setLinks : List ℕ} {listSize spareSize : ℕ} → ChainsAt p n (k - 1) (chainStores rowHeads rowLinks setHeads setLinks)
-      → (listSize ≡ n) × (spareSize ≡ n)
+      → (listSize ≡ p .height) × (spareSize ≡ p .height)
       → (SideAt p lower n k (stores .lowerSide) l × SideAt p upper n k (stores .upperSide) u)
       × ((ChainsAt p n (k - 1) (chainStores rowHeads rowLinks setHeads setLinks) × (getD rowHeads k 0 ≡ getD rowHeads k 0))
-      × (EndsAre p (k - 1) l u reads × ((listSize ≡ n) × (spareSize ≡ n))))
+      × (EndsAre p (k - 1) l u reads × ((listSize ≡ p .height) × (spareSize ≡ p .height))))
   verify-lists-ask chains sizes = ((lower-at, upper-at), ((chains, refl), (ends, sizes)))
 
 -- the lent stores contain it
 pub verify-on :
     {lists : Lists} {p : Lent} {n k row l u : ℕ} {lowers uppers : List ℕ} {chained : ChainStores} {stores : PlanStores} → StepOf p n k
-    → ListsWhole lists p n k row lowers uppers → ChainsAt p n k chained → (l ≡ used (planOf p) lower k) × Contains (planOf p) lower n k (stores .lowerSide)
+    → ListsWhole lists p k row lowers uppers → ChainsAt p n k chained → (l ≡ used (planOf p) lower k) × Contains (planOf p) lower n k (stores .lowerSide)
     → (u ≡ used (planOf p) upper k) × Contains (planOf p) upper n k (stores .upperSide)
     → EndsAre p k l u (lists .reads) × ChainsAt p n k chained × BothContain p n k stores
 verify-on step whole chains (lower-end, lowers) (upper-end, uppers) = (
@@ -140,19 +140,19 @@ pub record VerifyUnderway (p : Lent) (n k : ℕ) (chained : ChainStores) (stores
   pub chains : ChainsAt p n (k - 1) chained
   pub both : BothContain p n (k - 1) stores
   pub ends : EndsAre p (k - 1) l u reads
-  pub list-size : length list ≡ n
-  pub spare-size : length spare ≡ n
+  pub list-size : length list ≡ p .height
+  pub spare-size : length spare ≡ p .height
 
 -- the lengths of the lent starts, and of the two in which a list grows
-abbrev pub LentSizes : ℕ → (lStarts lSlots uStarts uSlots list spare : List ℕ) → Type 0
-LentSizes n lStarts lSlots uStarts uSlots list spare =
-    (length lStarts ≡ n) × (length lSlots ≡ suc n) × (length uStarts ≡ n) × (length uSlots ≡ suc n) × (length list ≡ n) × (length spare ≡ n)
+abbrev pub LentSizes : (n height : ℕ) (lStarts lSlots uStarts uSlots list spare : List ℕ) → Type 0
+LentSizes n height lStarts lSlots uStarts uSlots list spare =
+    (length lStarts ≡ n) × (length lSlots ≡ suc n) × (length uStarts ≡ n) × (length uSlots ≡ suc n) × (length list ≡ height) × (length spare ≡ height)
 
 -- no step is done
 pub verify-start :
     {p : Lent} {n reads : ℕ} {chained : ChainStores} {stores : PlanStores} {list spare : List ℕ} → p .n ≡ n
     → reads ≡ length (p .columns) → Ready p × ChainsAt p n 0 chained
-    → LentSizes n (stores .lowerSide .starts) (stores .lowerSide .slotStarts) (stores .upperSide .starts) (stores .upperSide .slotStarts) list spare
+    → LentSizes n (p .height) (stores .lowerSide .starts) (stores .lowerSide .slotStarts) (stores .upperSide .starts) (stores .upperSide .slotStarts) list spare
     → getD (stores .lowerSide .slotStarts) 0 0 ≡ 0 → getD (stores .upperSide .slotStarts) 0 0 ≡ 0
     → VerifyUnderway p n 1 chained stores list spare 0 0 reads
 verify-start same read (ready, chains) (a, b, c, d, e, f) l u = record {
@@ -191,7 +191,7 @@ module _ {p : Lent} {n k : ℕ} {chained : ChainStores} {stores : PlanStores} {l
   pub verify-step-asks :
       k ≤ n
       → (StepOf p n k × ChainsAt p n (k - 1) chained)
-      × (BothContain p n (k - 1) stores × (EndsAre p (k - 1) l u reads × ((length list ≡ n) × (length spare ≡ n))))
+      × (BothContain p n (k - 1) stores × (EndsAre p (k - 1) l u reads × ((length list ≡ p .height) × (length spare ≡ p .height))))
   verify-step-asks high = (
     (record { ready = under .ready; same-n = under .same-n; low = under .low; high = high }, under .chains),
     (under .both, (under .ends, (under .list-size, under .spare-size))),

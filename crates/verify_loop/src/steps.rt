@@ -3,9 +3,8 @@
 ghost use mathlib.Core.Path.{_≡_};
 ghost use Prim.Native.Nat.{suc, _-_};
 ghost use lib.ListN.{length};
-ghost use Rattle.foundation.specs.Pattern.{lent};
 ghost use Rattle.answers.specs.Stores.{planStores};
-ghost use Rattle.plan_gather.specs.Ready.{Ready};
+ghost use Rattle.plan_gather.specs.Ready.{lentBy, Ready};
 ghost use Rattle.plan_gather.specs.Steps.{StepOf, ChainsAt, EndsAre, chainStores};
 ghost use Rattle.verify_loop.specs.Progress.{BothContain, StepCompared, AllCompared};
 use answers::SubscriptPlace;
@@ -42,13 +41,13 @@ fn verify_step(
     u_end: SubscriptPlace,
     reads: usize,
 ) -> Compared
-    requires { ⌜ StepOf (lent n (now starts) (now columns)) n k
-        × ChainsAt (lent n (now starts) (now columns)) n (k - 1) (chainStores (now «row_heads») (now «row_links») (now «set_heads») (now «set_links»)) ⌝ }
-    requires { ⌜ BothContain (lent n (now starts) (now columns)) n (k - 1)
+    requires { ⌜ StepOf (lentBy n (now starts) (now columns)) n k
+        × ChainsAt (lentBy n (now starts) (now columns)) n (k - 1) (chainStores (now «row_heads») (now «row_links») (now «set_heads») (now «set_links»)) ⌝ }
+    requires { ⌜ BothContain (lentBy n (now starts) (now columns)) n (k - 1)
         (planStores (now «l_subs») (now «l_starts») (now «l_slots») (now «u_subs») (now «u_starts») (now «u_slots»)) ⌝ }
-    requires { ⌜ EndsAre (lent n (now starts) (now columns)) (k - 1) («l_end» .0) («u_end» .0) reads ⌝ }
-    requires { ⌜ (length (now list) ≡ n) × (length (now spare) ≡ n) ⌝ }
-    ensures { λ r. ⌜ StepCompared r (lent n (now (starts .entry)) (now (columns .entry))) n k
+    requires { ⌜ EndsAre (lentBy n (now starts) (now columns)) (k - 1) («l_end» .0) («u_end» .0) reads ⌝ }
+    requires { ⌜ (length (now list) ≡ lentBy n (now starts) (now columns) .height) × (length (now spare) ≡ lentBy n (now starts) (now columns) .height) ⌝ }
+    ensures { λ r. ⌜ StepCompared r (lentBy n (now (starts .entry)) (now (columns .entry))) n k
         (chainStores (now («row_heads» .exit)) (now («row_links» .entry)) (now («set_heads» .exit)) (now («set_links» .exit)))
         (planStores (now («l_subs» .entry)) (now («l_starts» .entry)) (now («l_slots» .entry))
         (now («u_subs» .entry)) (now («u_starts» .entry)) (now («u_slots» .entry))) ⌝ }
@@ -119,11 +118,11 @@ pub fn verify_steps(
     list: &mut [usize],
     spare: &mut [usize],
 ) -> Compared
-    requires { ⌜ Ready (lent n (now starts) (now columns))
-        × ChainsAt (lent n (now starts) (now columns)) n 0 (chainStores (now «row_heads») (now «row_links») (now «set_heads») (now «set_links»)) ⌝ }
+    requires { ⌜ Ready (lentBy n (now starts) (now columns))
+        × ChainsAt (lentBy n (now starts) (now columns)) n 0 (chainStores (now «row_heads») (now «row_links») (now «set_heads») (now «set_links»)) ⌝ }
     requires { ⌜ (length (now «l_starts») ≡ n) × (length (now «l_slots») ≡ suc n) × (length (now «u_starts») ≡ n)
-        × (length (now «u_slots») ≡ suc n) × (length (now list) ≡ n) × (length (now spare) ≡ n) ⌝ }
-    ensures { λ r. ⌜ AllCompared r (lent n (now (starts .entry)) (now (columns .entry))) n
+        × (length (now «u_slots») ≡ suc n) × (length (now list) ≡ lentBy n (now starts) (now columns) .height) × (length (now spare) ≡ lentBy n (now starts) (now columns) .height) ⌝ }
+    ensures { λ r. ⌜ AllCompared r (lentBy n (now (starts .entry)) (now (columns .entry))) n
         (planStores (now («l_subs» .entry)) (now («l_starts» .entry)) (now («l_slots» .entry))
         (now («u_subs» .entry)) (now («u_starts» .entry)) (now («u_slots» .entry))) ⌝ }
 {

@@ -8,7 +8,7 @@ use lib.Seq.{take-all}
 use Rattle.foundation.specs.Pattern.{Lent, lent, maxEntries}
 use Rattle.foundation.specs.Plan.{Side, lower, upper, brings}
 use Rattle.foundation.specs.Subscripts.{soleStep}
-use Rattle.plan_gather.specs.Ready.{planOf}
+use Rattle.plan_gather.specs.Ready.{lentBy, planOf}
 use Rattle.plan_gather.specs.Steps.{StepOf}
 use Rattle.plan_share.specs.Adding.{RestOf}
 use Rattle.plan_lists.specs.Lying.{AddedBehind}
@@ -37,12 +37,12 @@ pub record RestRead (n : ℕ) (starts columns : List ℕ) (k t from row : ℕ) :
   pub rising : getD starts (row - 1) 0 + from ≤ getD starts row 0
   pub inside : getD starts row 0 ≤ length columns
   pub few : length columns ≤ 16384
-  pub found : RestOf (lent n starts columns) upper k t (take (getD starts row 0 - (getD starts (row - 1) 0 + from)) (drop (getD starts (row - 1) 0 + from) columns))
+  pub found : RestOf (lentBy n starts columns) upper k t (take (getD starts row 0 - (getD starts (row - 1) 0 + from)) (drop (getD starts (row - 1) 0 + from) columns))
 
 pub columns-rest :
-    {n : ℕ} {starts columns : List ℕ} {k t from row : ℕ} {xs : List ℕ} → StepOf (lent n starts columns) n k
-    → AddedBehind (lent n starts columns) upper k row t from xs → RestRead n starts columns k t from row
-unfolding maxEntries lent
+    {n : ℕ} {starts columns : List ℕ} {k t from row : ℕ} {xs : List ℕ} → StepOf (lentBy n starts columns) n k
+    → AddedBehind (lentBy n starts columns) upper k row t from xs → RestRead n starts columns k t from row
+unfolding maxEntries lentBy lent
 columns-rest {n} {starts} {columns} {k} {t} {from} {row} of behind =
     let read = columns-from n starts columns k row from _ of (behind .rows) (behind .inside) refl in
     record {

@@ -1,7 +1,8 @@
 // The list of step k, wherever it lies, is looked for in the stores of its side of a lent plan.
-ghost use Rattle.foundation.specs.Pattern.{Lent, lent};
+ghost use Rattle.foundation.specs.Pattern.{Lent};
 ghost use Rattle.foundation.specs.Plan.{lower, upper};
 ghost use Rattle.answers.specs.Stores.{sideStores};
+ghost use Rattle.plan_gather.specs.Ready.{lentBy};
 ghost use Rattle.plan_gather.specs.Steps.{SideAt};
 ghost use Rattle.plan_lists.specs.Lying.{WholeAt};
 ghost use Rattle.verify_sides.specs.Verifying.{VerifiedAs};
@@ -25,9 +26,9 @@ pub fn find_lower(
     slots: &[usize],
     end: SubscriptPlace,
 ) -> Verified
-    requires { ⌜ ((p : Lent) × SideAt p lower n k (sideStores (now subs) (now «list_starts») (now slots)) (end .0) × WholeAt lies p lower n k row (now growing)) ⌝ }
+    requires { ⌜ ((p : Lent) × SideAt p lower n k (sideStores (now subs) (now «list_starts») (now slots)) (end .0) × WholeAt lies p lower k row (now growing)) ⌝ }
     ensures { λ r. ⌜ ((p : Lent) → SideAt p lower n k (sideStores (now (subs .entry)) (now («list_starts» .entry)) (now (slots .entry))) (end .0)
-        → WholeAt lies p lower n k row (now (growing .entry))
+        → WholeAt lies p lower k row (now (growing .entry))
         → VerifiedAs r p lower n k (sideStores (now (subs .entry)) (now («list_starts» .entry)) (now (slots .entry)))) ⌝ }
 {
     let own = [row];
@@ -60,9 +61,9 @@ pub fn find_upper(
     slots: &[usize],
     end: SubscriptPlace,
 ) -> Verified
-    requires { ⌜ SideAt (lent n (now starts) (now columns)) upper n k (sideStores (now subs) (now «list_starts») (now slots)) (end .0)
-        × WholeAt lies (lent n (now starts) (now columns)) upper n k row (now growing) ⌝ }
-    ensures { λ r. ⌜ VerifiedAs r (lent n (now (starts .entry)) (now (columns .entry))) upper n k
+    requires { ⌜ SideAt (lentBy n (now starts) (now columns)) upper n k (sideStores (now subs) (now «list_starts») (now slots)) (end .0)
+        × WholeAt lies (lentBy n (now starts) (now columns)) upper k row (now growing) ⌝ }
+    ensures { λ r. ⌜ VerifiedAs r (lentBy n (now (starts .entry)) (now (columns .entry))) upper n k
         (sideStores (now (subs .entry)) (now («list_starts» .entry)) (now (slots .entry))) ⌝ }
 {
     match lies {

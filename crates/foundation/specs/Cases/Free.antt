@@ -3,7 +3,7 @@ use mathlib.Core.List.{List, [], _∷_, map}
 use Prim.Native.Nat.{ℕ, _+_, _*_}
 use lib.Dec.{eqb}
 use lib.ListN.{getD}
-use Rattle.foundation.specs.Pattern.{lent, Pattern, patternOf}
+use Rattle.foundation.specs.Pattern.{lentSquare, Pattern, patternOf}
 use Rattle.foundation.specs.Square.{Square}
 use Rattle.foundation.specs.Free.{FreeStep, FreeState, freeStart, taken, freeRun, freeAfter}
 use Rattle.foundation.specs.Table.{Case, case}
@@ -11,7 +11,7 @@ use Rattle.foundation.specs.Cases.Show.{flag, flags, row, tall, three}
 
 -- rows {1,3}, {2,3}, {1,3}
 abbrev pub threeFields : Pattern
-threeFields = patternOf (lent 3 (0 ∷ 2 ∷ 4 ∷ 6 ∷ []) (1 ∷ 3 ∷ 2 ∷ 3 ∷ 1 ∷ 3 ∷ []))
+threeFields = patternOf (lentSquare 3 (0 ∷ 2 ∷ 4 ∷ 6 ∷ []) (1 ∷ 3 ∷ 2 ∷ 3 ∷ 1 ∷ 3 ∷ []))
 
 -- the number at (i, j) is ij
 abbrev pub digits : Square ℕ

@@ -3,7 +3,7 @@ use mathlib.Core.List.{List, [], _∷_, _++_, map}
 use Prim.Native.Nat.{ℕ, zero, suc}
 use lib.ListN.{getD}
 use Rattle.foundation.specs.Answer.{Answer}
-use Rattle.foundation.specs.Pattern.{Lent, lent}
+use Rattle.foundation.specs.Pattern.{Lent, lentSquare}
 use Rattle.foundation.specs.Plan.{Planning, lower, upper}
 use Rattle.foundation.specs.Subscripts.{startsStore}
 use Rattle.foundation.specs.PlanCall.{Counts, SideStores, WorkSizes, subscripts, sameCounts, held}
@@ -13,19 +13,20 @@ use Rattle.foundation.specs.Cases.PlanCall.{fiveFields, stores, work, fi
 
 -- the plan of the five fields as it is lent: its counts, L's stores, U's stores
 abbrev pub rightCounts : List ℕ
-rightCounts = 5 ∷ 11 ∷ 3 ∷ 7 ∷ 6 ∷ 8 ∷ 44 ∷ []
+rightCounts = 5 ∷ 5 ∷ 11 ∷ 3 ∷ 7 ∷ 6 ∷ 8 ∷ 44 ∷ []
 
--- seven counts in the order of the listing
+-- the counts in the order of the listing, the row count behind n
 abbrev pub countsFrom : List ℕ → Counts
 countsFrom xs =
     record {
       n = getD xs 0 0;
-      entries = getD xs 1 0;
-      lowerSubscripts = getD xs 2 0;
-      upperSubscripts = getD xs 3 0;
-      lowerSlots = getD xs 4 0;
-      upperSlots = getD xs 5 0;
-      reads = getD xs 6 0;
+      height = getD xs 1 0;
+      entries = getD xs 2 0;
+      lowerSubscripts = getD xs 3 0;
+      upperSubscripts = getD xs 4 0;
+      lowerSlots = getD xs 5 0;
+      upperSlots = getD xs 6 0;
+      reads = getD xs 7 0;
     }
 
 abbrev pub side : List ℕ → List ℕ → List ℕ → SideStores
@@ -92,8 +93,8 @@ lentPlanCases =
     -- the plan of the five fields is held, and is their plan
     case (told planShown (holdOf fiveFields rightCounts rightLower rightUpper fittingSizes))
     ((1 ∷ []) ∷ (3 ∷ 4 ∷ 5 ∷ []) ∷ (0 ∷ 3 ∷ 5 ∷ 6 ∷ 7 ∷ []) ∷ (44 ∷ []) ∷ [])
-    -- 9: "the lent plan differs from this pattern's plan in some count": each of the seven, one more
-    ∷ row (map (λ i. withCounts (onemore i rightCounts)) (0 ∷ 1 ∷ 2 ∷ 3 ∷ 4 ∷ 5 ∷ 6 ∷ [])) (9 ∷ 9 ∷ 9 ∷ 9 ∷ 9 ∷ 9 ∷ 9 ∷ [])
+    -- 9: "the lent plan differs from this pattern's plan in some count": each of the eight, one more
+    ∷ row (map (λ i. withCounts (onemore i rightCounts)) (0 ∷ 1 ∷ 2 ∷ 3 ∷ 4 ∷ 5 ∷ 6 ∷ 7 ∷ [])) (9 ∷ 9 ∷ 9 ∷ 9 ∷ 9 ∷ 9 ∷ 9 ∷ 9 ∷ [])
     -- "start": each of L's, each of L's slots; each of U's, each of U's slots
     ∷ row (map (λ i. lowerStarts (onemore i (rightLower .starts))) (0 ∷ 1 ∷ 2 ∷ 3 ∷ 4 ∷ [])) (9 ∷ 9 ∷ 9 ∷ 9 ∷ 9 ∷ [])
     ∷ row (map (λ i. lowerSlotStarts (onemore i (rightLower .slotStarts))) (0 ∷ 1 ∷ 2 ∷ 3 ∷ 4 ∷ 5 ∷ [])) (9 ∷ 9 ∷ 9 ∷ 9 ∷ 9 ∷ 9 ∷ [])
@@ -105,7 +106,7 @@ lentPlanCases =
     ∷ row (lowerSubs (rightLower .subs ++ (7 ∷ [])) ∷ upperSubs (rightUpper .subs ++ (7 ∷ 7 ∷ [])) ∷ []) (0 ∷ 0 ∷ [])
     ∷ row (lowerSubs (3 ∷ 4 ∷ []) ∷ upperSubs (3 ∷ 4 ∷ 5 ∷ 3 ∷ 5 ∷ 4 ∷ []) ∷ []) (9 ∷ 9 ∷ [])
     -- document 02, ticket 5: "9 (..) judged by this rule for all plans": shared as before it, with the count that belongs to that and with the right one
-    ∷ row (heldWith (5 ∷ 11 ∷ 5 ∷ 7 ∷ 6 ∷ 8 ∷ 44 ∷ []) sharedBefore rightUpper ∷ withLower sharedBefore ∷ []) (9 ∷ 9 ∷ [])
+    ∷ row (heldWith (5 ∷ 5 ∷ 11 ∷ 5 ∷ 7 ∷ 6 ∷ 8 ∷ 44 ∷ []) sharedBefore rightUpper ∷ withLower sharedBefore ∷ []) (9 ∷ 9 ∷ [])
     -- L's stores lent for U, and U's for L
     ∷ row (withLower rightUpper ∷ withUpper rightLower ∷ []) (9 ∷ 9 ∷ [])
     -- 6 before 9: a starts store of another length; a work store; with counts that differ too
@@ -115,18 +116,18 @@ lentPlanCases =
     ∷ upperStarts (0 ∷ 3 ∷ 5 ∷ 6 ∷ 7 ∷ 7 ∷ [])
     ∷ upperSlotStarts (0 ∷ 3 ∷ 5 ∷ 7 ∷ 8 ∷ [])
     ∷ refusalNumber (holdOf fiveFields rightCounts rightLower rightUpper (work (4 ∷ []) [] []))
-    ∷ heldWith (onemore 6 rightCounts) (side [] [] []) rightUpper
+    ∷ heldWith (onemore 7 rightCounts) (side [] [] []) rightUpper
     ∷ [])
     (6 ∷ 6 ∷ 6 ∷ 6 ∷ 6 ∷ 6 ∷ [])
     -- 6 and 9 have no step
     ∷ case (told planShown (holdOf fiveFields rightCounts rightLower rightUpper (work (4 ∷ []) [] []))) ((0 ∷ 6 ∷ 0 ∷ []) ∷ [])
-    ∷ case (told planShown (holdOf fiveFields (onemore 6 rightCounts) rightLower rightUpper fittingSizes)) ((0 ∷ 9 ∷ 0 ∷ []) ∷ [])
+    ∷ case (told planShown (holdOf fiveFields (onemore 7 rightCounts) rightLower rightUpper fittingSizes)) ((0 ∷ 9 ∷ 0 ∷ []) ∷ [])
     -- 1 to 5 before 6 and 9; a caller's largest n
-    ∷ row (refusalNumber (holdOf (lent 1 (0 ∷ 0 ∷ []) []) rightCounts (ninesIn 0 0 0) rightUpper fittingSizes) ∷ []) (5 ∷ [])
+    ∷ row (refusalNumber (holdOf (lentSquare 1 (0 ∷ 0 ∷ []) []) rightCounts (ninesIn 0 0 0) rightUpper fittingSizes) ∷ []) (5 ∷ [])
     ∷ row
     (map (λ most. refusalNumber (held most fiveFields (record { counts = countsFrom rightCounts; stores = stores rightLower rightUpper }) fittingSizes)) (4 ∷ 5 ∷ []))
     (1 ∷ 0 ∷ [])
-    -- count for count: each of seven differs
-    ∷ row (flags (map (λ i. sameCounts (countsFrom rightCounts) (countsFrom (onemore i rightCounts))) (0 ∷ 1 ∷ 2 ∷ 3 ∷ 4 ∷ 5 ∷ 6 ∷ 7 ∷ [])))
-    (0 ∷ 0 ∷ 0 ∷ 0 ∷ 0 ∷ 0 ∷ 0 ∷ 1 ∷ [])
+    -- count for count: each of eight differs
+    ∷ row (flags (map (λ i. sameCounts (countsFrom rightCounts) (countsFrom (onemore i rightCounts))) (0 ∷ 1 ∷ 2 ∷ 3 ∷ 4 ∷ 5 ∷ 6 ∷ 7 ∷ 8 ∷ [])))
+    (0 ∷ 0 ∷ 0 ∷ 0 ∷ 0 ∷ 0 ∷ 0 ∷ 0 ∷ 1 ∷ [])
     ∷ []

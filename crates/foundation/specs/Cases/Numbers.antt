@@ -6,7 +6,7 @@ use lib.Ieee.{fin}
 use lib.IntN.{negsuc}
 use lib.Dec.{eqb}
 use Rattle.foundation.specs.Answer.{Answer, refused, granted, refuseIf, andThen, resultStore, workStore}
-use Rattle.foundation.specs.Pattern.{lent, patternOf}
+use Rattle.foundation.specs.Pattern.{lentSquare, patternOf}
 use Rattle.foundation.specs.Numbers.{plusZero, isZero, finite, magnitude, mayPivot, product, difference, quotient, bitsOf, ofPattern}
 use Rattle.foundation.specs.Square.{swap, placed, exchanged}
 use Rattle.foundation.specs.Text.{ascii}
@@ -74,7 +74,7 @@ squareCases =
     ∷ case (places four four (exchanged 2 4 digits))
     ((11 ∷ 12 ∷ 13 ∷ 14 ∷ []) ∷ (21 ∷ 42 ∷ 43 ∷ 44 ∷ []) ∷ (31 ∷ 32 ∷ 33 ∷ 34 ∷ []) ∷ (41 ∷ 22 ∷ 23 ∷ 24 ∷ []) ∷ [])
     -- "at first the given numbers in the pattern and zero elsewhere": rows {1,2}, {2}; 7 stands for zero
-    ∷ case (places (0 ∷ 1 ∷ 2 ∷ 3 ∷ []) (0 ∷ 1 ∷ 2 ∷ 3 ∷ []) (placed (patternOf (lent 2 (0 ∷ 2 ∷ 3 ∷ []) (1 ∷ 2 ∷ 2 ∷ []))) 7 digits))
+    ∷ case (places (0 ∷ 1 ∷ 2 ∷ 3 ∷ []) (0 ∷ 1 ∷ 2 ∷ 3 ∷ []) (placed (patternOf (lentSquare 2 (0 ∷ 2 ∷ 3 ∷ []) (1 ∷ 2 ∷ 2 ∷ []))) 7 digits))
     ((7 ∷ 7 ∷ 7 ∷ 7 ∷ []) ∷ (7 ∷ 11 ∷ 12 ∷ 7 ∷ []) ∷ (7 ∷ 7 ∷ 22 ∷ 7 ∷ []) ∷ (7 ∷ 7 ∷ 7 ∷ 7 ∷ []) ∷ [])
     ∷ []
 

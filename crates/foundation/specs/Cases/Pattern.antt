@@ -2,20 +2,20 @@
 use mathlib.Core.List.{List, [], _∷_, map}
 use Prim.Native.Nat.{ℕ}
 use lib.ListN.{replicate}
-use Rattle.foundation.specs.Pattern.{Lent, lent, Pattern, column, present, patternFault, judged}
+use Rattle.foundation.specs.Pattern.{Lent, lentSquare, Pattern, column, present, patternFault, judged}
 use Rattle.foundation.specs.Table.{Case, case, told}
 use Rattle.foundation.specs.Cases.Show.{flag, places, row, tall}
 
 -- two rows, {1,2} and {2}, with these starts; with these columns
 abbrev pub startsAs : ℕ → List ℕ → Lent
-startsAs n starts = lent n starts (1 ∷ 2 ∷ 2 ∷ [])
+startsAs n starts = lentSquare n starts (1 ∷ 2 ∷ 2 ∷ [])
 
 abbrev pub columnsAs : List ℕ → Lent
-columnsAs columns = lent 2 (0 ∷ 2 ∷ 4 ∷ []) columns
+columnsAs columns = lentSquare 2 (0 ∷ 2 ∷ 4 ∷ []) columns
 
 -- so many fields, or entries, and nothing else in order
 abbrev pub sized : ℕ → ℕ → Lent
-sized n entries = lent n [] (replicate entries 1)
+sized n entries = lentSquare n [] (replicate entries 1)
 
 -- the number that a pattern is refused with, 0 for none
 abbrev pub fault : Lent → ℕ
@@ -37,7 +37,7 @@ patternCases =
     -- 2: "n+1 row starts", no fewer and no more
     ∷ row (map fault (startsAs 2 (0 ∷ 2 ∷ 3 ∷ []) ∷ startsAs 2 (0 ∷ 3 ∷ []) ∷ startsAs 2 (0 ∷ 2 ∷ 3 ∷ 3 ∷ []) ∷ [])) (0 ∷ 2 ∷ 2 ∷ [])
     -- nor one fewer where there are no entries
-    ∷ row (map fault (lent 2 (0 ∷ 0 ∷ []) [] ∷ [])) (2 ∷ [])
+    ∷ row (map fault (lentSquare 2 (0 ∷ 0 ∷ []) [] ∷ [])) (2 ∷ [])
     -- "first 0"
     ∷ row (map fault (startsAs 2 (1 ∷ 2 ∷ 3 ∷ []) ∷ [])) (2 ∷ [])
     -- "not falling": 3 and then 2; 4, past the entries, and then 3
@@ -45,21 +45,21 @@ patternCases =
     -- "last equal to the number of entries": one fewer, one more
     ∷ row (map fault (startsAs 2 (0 ∷ 2 ∷ 2 ∷ []) ∷ startsAs 2 (0 ∷ 2 ∷ 4 ∷ []) ∷ [])) (2 ∷ 2 ∷ [])
     -- equal starts are not falling: a row without columns is 5
-    ∷ row (map fault (lent 2 (0 ∷ 0 ∷ 1 ∷ []) (2 ∷ []) ∷ [])) (5 ∷ [])
+    ∷ row (map fault (lentSquare 2 (0 ∷ 0 ∷ 1 ∷ []) (2 ∷ []) ∷ [])) (5 ∷ [])
     -- 3: "a column is outside 1 to n": 0 in the first place, 3 in the last; 1 and n are inside
     ∷ row (map fault (columnsAs (0 ∷ 1 ∷ 1 ∷ 2 ∷ []) ∷ columnsAs (1 ∷ 2 ∷ 2 ∷ 3 ∷ []) ∷ columnsAs (1 ∷ 2 ∷ 1 ∷ 2 ∷ []) ∷ [])) (3 ∷ 3 ∷ 0 ∷ [])
     -- 4: "columns do not ascend strictly in a row": equal, falling; from row to row they may fall
     ∷ row (map fault (columnsAs (1 ∷ 1 ∷ 1 ∷ 2 ∷ []) ∷ columnsAs (1 ∷ 2 ∷ 2 ∷ 1 ∷ []) ∷ [])) (4 ∷ 4 ∷ [])
     -- 5: "a row lacks its diagonal", the first, the last
-    ∷ row (map fault (startsAs 2 (0 ∷ 0 ∷ 3 ∷ []) ∷ lent 2 (0 ∷ 1 ∷ 2 ∷ []) (2 ∷ 2 ∷ []) ∷ lent 2 (0 ∷ 1 ∷ 2 ∷ []) (1 ∷ 1 ∷ []) ∷ [])) (5 ∷ 5 ∷ 5 ∷ [])
+    ∷ row (map fault (startsAs 2 (0 ∷ 0 ∷ 3 ∷ []) ∷ lentSquare 2 (0 ∷ 1 ∷ 2 ∷ []) (2 ∷ 2 ∷ []) ∷ lentSquare 2 (0 ∷ 1 ∷ 2 ∷ []) (1 ∷ 1 ∷ []) ∷ [])) (5 ∷ 5 ∷ 5 ∷ [])
     -- "3 before 4 at an entry": 0 after 2; but 4 at an entry before 3 at a later one
-    ∷ row (map fault (lent 2 (0 ∷ 3 ∷ 4 ∷ []) (1 ∷ 2 ∷ 0 ∷ 2 ∷ []) ∷ lent 2 (0 ∷ 3 ∷ 4 ∷ []) (2 ∷ 1 ∷ 3 ∷ 2 ∷ []) ∷ [])) (3 ∷ 4 ∷ [])
+    ∷ row (map fault (lentSquare 2 (0 ∷ 3 ∷ 4 ∷ []) (1 ∷ 2 ∷ 0 ∷ 2 ∷ []) ∷ lentSquare 2 (0 ∷ 3 ∷ 4 ∷ []) (2 ∷ 1 ∷ 3 ∷ 2 ∷ []) ∷ [])) (3 ∷ 4 ∷ [])
     -- "5 at the row's end": after 3, after 4 of the same row
-    ∷ row (map fault (lent 2 (0 ∷ 1 ∷ 2 ∷ []) (3 ∷ 2 ∷ []) ∷ lent 2 (0 ∷ 2 ∷ 3 ∷ []) (2 ∷ 2 ∷ 2 ∷ []) ∷ [])) (3 ∷ 4 ∷ [])
+    ∷ row (map fault (lentSquare 2 (0 ∷ 1 ∷ 2 ∷ []) (3 ∷ 2 ∷ []) ∷ lentSquare 2 (0 ∷ 2 ∷ 3 ∷ []) (2 ∷ 2 ∷ 2 ∷ []) ∷ [])) (3 ∷ 4 ∷ [])
     -- "3, 4 and 5 go row by row": 5, 4 in row 1 before 3 in row 2
-    ∷ row (map fault (lent 2 (0 ∷ 1 ∷ 2 ∷ []) (2 ∷ 3 ∷ []) ∷ lent 2 (0 ∷ 2 ∷ 3 ∷ []) (1 ∷ 1 ∷ 0 ∷ []) ∷ [])) (5 ∷ 4 ∷ [])
+    ∷ row (map fault (lentSquare 2 (0 ∷ 1 ∷ 2 ∷ []) (2 ∷ 3 ∷ []) ∷ lentSquare 2 (0 ∷ 2 ∷ 3 ∷ []) (1 ∷ 1 ∷ 0 ∷ []) ∷ [])) (5 ∷ 4 ∷ [])
     -- "Order is that of the table": 1 before 2, 2 before 3
-    ∷ row (map fault (lent 0 (1 ∷ []) [] ∷ lent 2 (1 ∷ 2 ∷ 3 ∷ []) (0 ∷ 3 ∷ 3 ∷ []) ∷ [])) (1 ∷ 2 ∷ [])
+    ∷ row (map fault (lentSquare 0 (1 ∷ []) [] ∷ lentSquare 2 (1 ∷ 2 ∷ 3 ∷ []) (0 ∷ 3 ∷ 3 ∷ []) ∷ [])) (1 ∷ 2 ∷ [])
     -- A refusal has step 0. What passes is granted: n rows, each "from its start to the next one's", rows counted from 1.
     ∷ case (told showPattern (judged 1024 (columnsAs (1 ∷ 2 ∷ 2 ∷ 3 ∷ [])))) ((0 ∷ 3 ∷ 0 ∷ []) ∷ [])
     ∷ case (told showPattern (judged 1 (startsAs 2 (0 ∷ 2 ∷ 3 ∷ [])))) ((0 ∷ 1 ∷ 0 ∷ []) ∷ [])

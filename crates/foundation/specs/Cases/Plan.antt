@@ -3,7 +3,7 @@ use mathlib.Core.Bool.{false, cond}
 use mathlib.Core.List.{List, [], _∷_, _++_, map}
 use Prim.Native.Nat.{ℕ, _+_}
 use lib.Dec.{eqb}
-use Rattle.foundation.specs.Pattern.{Lent, lent, Pattern, patternOf}
+use Rattle.foundation.specs.Pattern.{Lent, lentSquare, Pattern, patternOf}
 use Rattle.foundation.specs.Plan.{Planning, Side, lower, upper, list, after, plan}
 use Rattle.foundation.specs.Subscripts.{kept, only, soleStep, Shared, sharedEnd, shared, opened, startsStore, roomFault}
 use Rattle.foundation.specs.Slots.{Slot, none, onDiagonal, inSide, slotIn, hasSlot, slotsOf, slotStarts, slotAt}
@@ -14,16 +14,16 @@ use Rattle.foundation.specs.Cases.Show.{flag, flags, four, places, row, 
 -- rows {1,3,4,5,6}, {2,5}, {3,6}, {2,4,6}, {5,7}, {3,6}, {2,6,7}
 abbrev pub sevenFields : Lent
 sevenFields =
-    lent 7 (0 ∷ 5 ∷ 7 ∷ 9 ∷ 12 ∷ 14 ∷ 16 ∷ 19 ∷ [])
+    lentSquare 7 (0 ∷ 5 ∷ 7 ∷ 9 ∷ 12 ∷ 14 ∷ 16 ∷ 19 ∷ [])
     (1 ∷ 3 ∷ 4 ∷ 5 ∷ 6 ∷ 2 ∷ 5 ∷ 3 ∷ 6 ∷ 2 ∷ 4 ∷ 6 ∷ 5 ∷ 7 ∷ 3 ∷ 6 ∷ 2 ∷ 6 ∷ 7 ∷ [])
 
 -- rows {1,5}, {1,2}, {3}, {1,2,4,5}, {3,5}, {2,5,6}
 abbrev pub sixFields : Lent
-sixFields = lent 6 (0 ∷ 2 ∷ 4 ∷ 5 ∷ 9 ∷ 11 ∷ 14 ∷ []) (1 ∷ 5 ∷ 1 ∷ 2 ∷ 3 ∷ 1 ∷ 2 ∷ 4 ∷ 5 ∷ 3 ∷ 5 ∷ 2 ∷ 5 ∷ 6 ∷ [])
+sixFields = lentSquare 6 (0 ∷ 2 ∷ 4 ∷ 5 ∷ 9 ∷ 11 ∷ 14 ∷ []) (1 ∷ 5 ∷ 1 ∷ 2 ∷ 3 ∷ 1 ∷ 2 ∷ 4 ∷ 5 ∷ 3 ∷ 5 ∷ 2 ∷ 5 ∷ 6 ∷ [])
 
 -- rows {1,4}, {2,3}, {2,3}, {1,4}
 abbrev pub twoPairs : Lent
-twoPairs = lent 4 (0 ∷ 2 ∷ 4 ∷ 6 ∷ 8 ∷ []) (1 ∷ 4 ∷ 2 ∷ 3 ∷ 2 ∷ 3 ∷ 1 ∷ 4 ∷ [])
+twoPairs = lentSquare 4 (0 ∷ 2 ∷ 4 ∷ 6 ∷ 8 ∷ []) (1 ∷ 4 ∷ 2 ∷ 3 ∷ 2 ∷ 3 ∷ 1 ∷ 4 ∷ [])
 
 -- three rows on two columns, whose row i names column i, and row 1 a column past n
 abbrev pub pastN : Pattern
@@ -39,19 +39,19 @@ roomFor roomL roomU = told (λ s. (s .reads ∷ []) ∷ []) (roomFault (plan (pa
 
 -- rows {1,4}, {2}, {1,3}, {1,4}, {2,4,5}, {4,6}
 abbrev pub middleList : Lent
-middleList = lent 6 (0 ∷ 2 ∷ 3 ∷ 5 ∷ 7 ∷ 10 ∷ 12 ∷ []) (1 ∷ 4 ∷ 2 ∷ 1 ∷ 3 ∷ 1 ∷ 4 ∷ 2 ∷ 4 ∷ 5 ∷ 4 ∷ 6 ∷ [])
+middleList = lentSquare 6 (0 ∷ 2 ∷ 3 ∷ 5 ∷ 7 ∷ 10 ∷ 12 ∷ []) (1 ∷ 4 ∷ 2 ∷ 1 ∷ 3 ∷ 1 ∷ 4 ∷ 2 ∷ 4 ∷ 5 ∷ 4 ∷ 6 ∷ [])
 
 -- rows {1}, {2}, {3}, {1,3,4}
 abbrev pub wholeAtEnd : Lent
-wholeAtEnd = lent 4 (0 ∷ 1 ∷ 2 ∷ 3 ∷ 6 ∷ []) (1 ∷ 2 ∷ 3 ∷ 1 ∷ 3 ∷ 4 ∷ [])
+wholeAtEnd = lentSquare 4 (0 ∷ 1 ∷ 2 ∷ 3 ∷ 6 ∷ []) (1 ∷ 2 ∷ 3 ∷ 1 ∷ 3 ∷ 4 ∷ [])
 
 -- rows {1,5}, {2}, {2,3}, {1,4}, {2,5}
 abbrev pub soleFirst : Lent
-soleFirst = lent 5 (0 ∷ 2 ∷ 3 ∷ 5 ∷ 7 ∷ 9 ∷ []) (1 ∷ 5 ∷ 2 ∷ 2 ∷ 3 ∷ 1 ∷ 4 ∷ 2 ∷ 5 ∷ [])
+soleFirst = lentSquare 5 (0 ∷ 2 ∷ 3 ∷ 5 ∷ 7 ∷ 9 ∷ []) (1 ∷ 5 ∷ 2 ∷ 2 ∷ 3 ∷ 1 ∷ 4 ∷ 2 ∷ 5 ∷ [])
 
 -- rows {1,4,5}, {2,4}, {1,3}, {4}, {5}
 abbrev pub solePart : Lent
-solePart = lent 5 (0 ∷ 3 ∷ 5 ∷ 7 ∷ 8 ∷ 9 ∷ []) (1 ∷ 4 ∷ 5 ∷ 2 ∷ 4 ∷ 1 ∷ 3 ∷ 4 ∷ 5 ∷ [])
+solePart = lentSquare 5 (0 ∷ 3 ∷ 5 ∷ 7 ∷ 8 ∷ 9 ∷ []) (1 ∷ 4 ∷ 5 ∷ 2 ∷ 4 ∷ 1 ∷ 3 ∷ 4 ∷ 5 ∷ [])
 
 -- a store, whatever lists put it there
 abbrev pub storeAlone : List ℕ → Shared
@@ -104,11 +104,11 @@ planCases =
     ([] ∷ [] ∷ [] ∷ [] ∷ [])
     -- "each C_k once, each R_i once, and L_l and U_l once for each l taken from an S"; none before the first step
     ∷ row ((plan (patternOf sevenFields)) .reads ∷ (plan (patternOf sixFields)) .reads ∷ (after (patternOf sixFields) 0) .reads ∷ []) (65 ∷ 55 ∷ 0 ∷ [])
-    -- three rows on two columns: rows are counted by the height, steps by n; step 2 has no r, and joins no step's set
+    -- three rows on two columns: rows are counted by the height, steps by n; step 2 has no r, and joins no S (ticket 9)
     ∷ case (map (list (plan threeOnTwo) lower) (1 ∷ 2 ∷ 3 ∷ [])) ((1 ∷ 3 ∷ []) ∷ (2 ∷ 3 ∷ []) ∷ [] ∷ [])
     ∷ case (map (list (plan threeOnTwo) upper) (1 ∷ 2 ∷ 3 ∷ [])) ((1 ∷ 2 ∷ []) ∷ (2 ∷ []) ∷ [] ∷ [])
     ∷ case (map ((plan threeOnTwo) .S) (0 ∷ 1 ∷ 2 ∷ 3 ∷ []) ++ (((plan threeOnTwo) .reads ∷ []) ∷ []))
-    ((2 ∷ []) ∷ [] ∷ (1 ∷ []) ∷ [] ∷ (14 ∷ []) ∷ [])
+    ([] ∷ [] ∷ (1 ∷ []) ∷ [] ∷ (14 ∷ []) ∷ [])
     -- "For k = 1 to n": no list is made past n, whatever rows there are
     ∷ case (map (list (plan pastN) lower) (1 ∷ 2 ∷ 3 ∷ [])) ((1 ∷ []) ∷ (2 ∷ []) ∷ [] ∷ [])
     ∷ []

@@ -2,15 +2,15 @@
 use mathlib.Core.List.{List, [], _∷_}
 use Prim.Native.Nat.{ℕ}
 use lib.ListN.{replicate}
-use Rattle.foundation.specs.Pattern.{Lent, lent}
+use Rattle.foundation.specs.Pattern.{Lent, lentSquare}
 use Rattle.foundation.specs.PlanCall.{Counts, SideStores, PlanStores, WorkSizes, planned, planAnswer, planLeaves}
 use Rattle.foundation.specs.Table.{Case, case, told}
 use Rattle.foundation.specs.Cases.Show.{refusalNumber, row}
 
--- rows {1}, {2,3}, {1,3}, {1,3,4,5}, {2,5}: each of the seven counts is another number, and L's store is one that sharing with the list of k-1 alone would
+-- rows {1}, {2,3}, {1,3}, {1,3,4,5}, {2,5}: each of the counts but the row count is another number, and L's store is one that sharing with the list of k-1 alone would
 -- make longer
 abbrev pub fiveFields : Lent
-fiveFields = lent 5 (0 ∷ 1 ∷ 3 ∷ 5 ∷ 9 ∷ 11 ∷ []) (1 ∷ 2 ∷ 3 ∷ 1 ∷ 3 ∷ 1 ∷ 3 ∷ 4 ∷ 5 ∷ 2 ∷ 5 ∷ [])
+fiveFields = lentSquare 5 (0 ∷ 1 ∷ 3 ∷ 5 ∷ 9 ∷ 11 ∷ []) (1 ∷ 2 ∷ 3 ∷ 1 ∷ 3 ∷ 1 ∷ 3 ∷ 4 ∷ 5 ∷ 2 ∷ 5 ∷ [])
 
 -- lent stores of these lengths, nines throughout: subscripts, starts and starts of slots
 abbrev pub ninesIn : ℕ → ℕ → ℕ → SideStores
@@ -20,7 +20,7 @@ abbrev pub stores : SideStores → SideStores → PlanStores
 stores l u = record { lowerSide = l; upperSide = u }
 
 abbrev pub work : List ℕ → List ℕ → List ℕ → WorkSizes
-work ofN ofNPlusOne ofEntries = record { ofN = ofN; ofNPlusOne = ofNPlusOne; ofEntries = ofEntries }
+work ofHeight ofHeightPlusOne ofEntries = record { ofHeight = ofHeight; ofHeightPlusOne = ofHeightPlusOne; ofEntries = ofEntries }
 
 -- stores and work stores that fit, with more room for subscripts than is needed
 abbrev pub fitting : PlanStores
@@ -30,7 +30,7 @@ abbrev pub fittingSizes : WorkSizes
 fittingSizes = work (5 ∷ 5 ∷ []) (6 ∷ 6 ∷ []) (11 ∷ 11 ∷ [])
 
 abbrev pub countsShown : Counts → List (List ℕ)
-countsShown c = (c .n ∷ c .entries ∷ c .lowerSubscripts ∷ c .upperSubscripts ∷ c .lowerSlots ∷ c .upperSlots ∷ c .reads ∷ []) ∷ []
+countsShown c = (c .n ∷ c .height ∷ c .entries ∷ c .lowerSubscripts ∷ c .upperSubscripts ∷ c .lowerSlots ∷ c .upperSlots ∷ c .reads ∷ []) ∷ []
 
 abbrev pub storesShown : PlanStores → List (List ℕ)
 storesShown q =
@@ -62,7 +62,7 @@ byPattern p = refusalNumber (planned 1024 p (stores (ninesIn 0 0 0) (ninesIn 0 0
 unfoldable pub planCallCases : List Case
 planCallCases =
     -- "Plan: n, entries, L and U subscripts, L and U slots, reads."
-    case (answered fiveFields fitting fittingSizes) ((1 ∷ []) ∷ (5 ∷ 11 ∷ 3 ∷ 7 ∷ 6 ∷ 8 ∷ 44 ∷ []) ∷ [])
+    case (answered fiveFields fitting fittingSizes) ((1 ∷ []) ∷ (5 ∷ 5 ∷ 11 ∷ 3 ∷ 7 ∷ 6 ∷ 8 ∷ 44 ∷ []) ∷ [])
     -- "result stores longer than needed are zero beyond": L's three stores, then U's
     ∷ case (leaves fiveFields fitting)
     ((3 ∷ 4 ∷ 5 ∷ 0 ∷ [])
@@ -85,7 +85,7 @@ planCallCases =
     ∷ [])
     -- document 02, ticket 5: "7, 8 and 9 are judged by this rule for all plans": three L subscripts are enough, where sharing with the list of k-1 alone
     -- would be 7 at step 3
-    ∷ case (answered fiveFields (stores (ninesIn 3 5 6) (ninesIn 7 5 6)) fittingSizes) ((1 ∷ []) ∷ (5 ∷ 11 ∷ 3 ∷ 7 ∷ 6 ∷ 8 ∷ 44 ∷ []) ∷ [])
+    ∷ case (answered fiveFields (stores (ninesIn 3 5 6) (ninesIn 7 5 6)) fittingSizes) ((1 ∷ []) ∷ (5 ∷ 5 ∷ 11 ∷ 3 ∷ 7 ∷ 6 ∷ 8 ∷ 44 ∷ []) ∷ [])
     -- a refusal leaves stores of whatever length zero: 6 by stores of six lengths
     ∷ case (leaves fiveFields (stores (ninesIn 1 2 3) (ninesIn 4 6 0)))
     ((0 ∷ []) ∷ (0 ∷ 0 ∷ []) ∷ (0 ∷ 0 ∷ 0 ∷ []) ∷ (0 ∷ 0 ∷ 0 ∷ 0 ∷ []) ∷ (0 ∷ 0 ∷ 0 ∷ 0 ∷ 0 ∷ 0 ∷ []) ∷ [] ∷ [])
@@ -120,12 +120,12 @@ planCallCases =
     ∷ case (answered fiveFields (stores (ninesIn 0 5 6) (ninesIn 0 5 7)) fittingSizes) ((0 ∷ 6 ∷ 0 ∷ []) ∷ [])
     -- "Order is that of the table": 1 to 5 before 6
     ∷ row
-    (byPattern (lent 0 (0 ∷ []) [])
-    ∷ byPattern (lent 1 (1 ∷ 1 ∷ []) (1 ∷ []))
-    ∷ byPattern (lent 1 (0 ∷ 1 ∷ []) (2 ∷ []))
-    ∷ byPattern (lent 1 (0 ∷ 2 ∷ []) (1 ∷ 1 ∷ []))
-    ∷ byPattern (lent 1 (0 ∷ 0 ∷ []) [])
-    ∷ byPattern (lent 1 (0 ∷ 1 ∷ []) (1 ∷ []))
+    (byPattern (lentSquare 0 (0 ∷ []) [])
+    ∷ byPattern (lentSquare 1 (1 ∷ 1 ∷ []) (1 ∷ []))
+    ∷ byPattern (lentSquare 1 (0 ∷ 1 ∷ []) (2 ∷ []))
+    ∷ byPattern (lentSquare 1 (0 ∷ 2 ∷ []) (1 ∷ 1 ∷ []))
+    ∷ byPattern (lentSquare 1 (0 ∷ 0 ∷ []) [])
+    ∷ byPattern (lentSquare 1 (0 ∷ 1 ∷ []) (1 ∷ []))
     ∷ [])
     (1 ∷ 2 ∷ 3 ∷ 4 ∷ 5 ∷ 6 ∷ [])
     -- a caller's largest n

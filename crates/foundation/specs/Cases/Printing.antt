@@ -3,7 +3,7 @@ use mathlib.Core.List.{List, [], _∷_, _++_, map}
 use Prim.Native.Nat.{ℕ}
 use lib.ListN.{length, replicate}
 use Rattle.foundation.specs.Answer.{refused}
-use Rattle.foundation.specs.Pattern.{lent}
+use Rattle.foundation.specs.Pattern.{lentSquare}
 use Rattle.foundation.specs.Reference.{largest, Going}
 use Rattle.foundation.specs.RunCall.{Lending}
 use Rattle.foundation.specs.Text.{ascii}
@@ -44,7 +44,7 @@ twoFields a b right c d right′ rows =
 
 -- a job of n fields and nothing else in order
 abbrev pub emptyJob : ℕ → Job
-emptyJob n = record { pattern = lent n [] []; values = floats (1 ∷ []); right = floats (2 ∷ 3 ∷ []); choice = largest }
+emptyJob n = record { pattern = lentSquare n [] []; values = floats (1 ∷ []); right = floats (2 ∷ 3 ∷ []); choice = largest }
 
 -- a run that ended with a right side of 1/3 in every row
 abbrev pub thirds : Going
@@ -67,7 +67,7 @@ printCases =
     ∷ row (hexBits 0x0123456789ABCDEF) (ascii "0123456789ABCDEF")
     ∷ row (hexBits 0) (ascii "0000000000000000")
     -- "Plan: n, entries, L and U subscripts, L and U slots, reads."
-    ∷ row (planLine (countsFrom (1 ∷ 2 ∷ 3 ∷ 4 ∷ 5 ∷ 6 ∷ 7 ∷ []))) (ascii "plan 1 2 3 4 5 6 7\n")
+    ∷ row (planLine (countsFrom (1 ∷ 9 ∷ 2 ∷ 3 ∷ 4 ∷ 5 ∷ 6 ∷ 7 ∷ []))) (ascii "plan 1 2 3 4 5 6 7\n")
     -- "Rows: pivot row of each step."
     ∷ row (rowsLine (3 ∷ 4 ∷ 12 ∷ [])) (ascii "rows 3 4 12\n")
     -- "x: row, bits in hexadecimal."
@@ -118,7 +118,7 @@ jobRunCases =
     ∷ row (map length (storesShown (jobStores (emptyJob 5)))) (2048 ∷ 5 ∷ 6 ∷ 2048 ∷ 5 ∷ 6 ∷ [])
     ∷ case (storesShown (blankStores 2 3 4)) ((0 ∷ 0 ∷ 0 ∷ []) ∷ (0 ∷ 0 ∷ []) ∷ (0 ∷ 0 ∷ 0 ∷ []) ∷ (0 ∷ 0 ∷ 0 ∷ 0 ∷ []) ∷ (0 ∷ 0 ∷ []) ∷ (0 ∷ 0 ∷ 0 ∷ []) ∷ [])
     -- work stores that fit whatever the pattern: none is lent
-    ∷ case (fittingWork .ofN ∷ fittingWork .ofNPlusOne ∷ fittingWork .ofEntries ∷ []) ([] ∷ [] ∷ [] ∷ [])
+    ∷ case (fittingWork .ofHeight ∷ fittingWork .ofHeightPlusOne ∷ fittingWork .ofEntries ∷ []) ([] ∷ [] ∷ [] ∷ [])
     -- "n at most 128": 128 fields, without row starts, are 2, and 129 are 1
     ∷ case (told showPivots (jobRun (emptyJob 128)) ++ told showPivots (jobRun (emptyJob 129))) ((0 ∷ 2 ∷ 0 ∷ []) ∷ (0 ∷ 1 ∷ 0 ∷ []) ∷ [])
     ∷ []

@@ -3,7 +3,7 @@ use mathlib.Core.List.{List, [], _∷_, _++_, map}
 use Prim.Native.Nat.{ℕ}
 use lib.ListN.{replicate}
 use Rattle.foundation.specs.Answer.{Answer}
-use Rattle.foundation.specs.Pattern.{Lent, lent, Pattern}
+use Rattle.foundation.specs.Pattern.{Lent, lentSquare, Pattern}
 use Rattle.foundation.specs.Reference.{Choice, largest, listed, Extent, whole, cut}
 use Rattle.foundation.specs.PlanCall.{Counts, SideStores, WorkSizes, LentPlan}
 use Rattle.foundation.specs.RunCall.{Lending, Ran, RunStores, ran, runAnswer, runLeaves, legal, rowsInRange, choiceFits, extentFits, valueAt, rightAt}
@@ -14,7 +14,7 @@ use Rattle.foundation.specs.Cases.LentPlan.{countsFrom, side}
 
 -- rows {1,3}, {2,3}, {1,3}; its plan: one slot in L, two in U
 abbrev pub threeFields : Lent
-threeFields = lent 3 (0 ∷ 2 ∷ 4 ∷ 6 ∷ []) (1 ∷ 3 ∷ 2 ∷ 3 ∷ 1 ∷ 3 ∷ [])
+threeFields = lentSquare 3 (0 ∷ 2 ∷ 4 ∷ 6 ∷ []) (1 ∷ 3 ∷ 2 ∷ 3 ∷ 1 ∷ 3 ∷ [])
 
 abbrev pub planWith : List ℕ → LentPlan
 planWith counts =
@@ -28,7 +28,7 @@ planWith counts =
     }
 
 abbrev pub threePlan : LentPlan
-threePlan = planWith (3 ∷ 6 ∷ 1 ∷ 1 ∷ 1 ∷ 2 ∷ 16 ∷ [])
+threePlan = planWith (3 ∷ 3 ∷ 6 ∷ 1 ∷ 1 ∷ 1 ∷ 2 ∷ 16 ∷ [])
 
 -- values (2,1), (1,1), (4,4); right side 3, 2, 8
 abbrev pub values : List ℕ
@@ -163,7 +163,7 @@ runCases =
     (0 ∷ 12 ∷ 0 ∷ 12 ∷ [])
     -- "Order is that of the table": 5 before 9, 6 before 9, 9 before 10, 10 before 11, 11 before 12, 12 before 13
     ∷ row
-    (refusalNumber (ran 1024 (lent 3 (0 ∷ 1 ∷ 2 ∷ 3 ∷ []) (1 ∷ 2 ∷ 1 ∷ [])) (planWith []) (work [] [] []) largest whole (lend [] [] 0 0 0 0 0))
+    (refusalNumber (ran 1024 (lentSquare 3 (0 ∷ 1 ∷ 2 ∷ 3 ∷ []) (1 ∷ 2 ∷ 1 ∷ [])) (planWith []) (work [] [] []) largest whole (lend [] [] 0 0 0 0 0))
     ∷ refusalNumber (ran 1024 threeFields (planWith []) (work (4 ∷ []) [] []) largest whole (lend [] [] 0 0 0 0 0))
     ∷ refusalNumber (ran 1024 threeFields (planWith []) (work [] [] []) largest whole (lend [] [] 0 0 0 0 0))
     ∷ refusedBy largest whole (lend (0x7FF8000000000000 ∷ []) right 3 3 3 1 2)

@@ -4,7 +4,7 @@ use mathlib.Core.List.{List, [], _∷_, map}
 use Prim.Native.Nat.{ℕ}
 use lib.Ieee.{Float, binary64, ofBits, toBits}
 use Rattle.foundation.specs.Answer.{Answer, refused, granted}
-use Rattle.foundation.specs.Pattern.{Pattern, lent, patternOf}
+use Rattle.foundation.specs.Pattern.{Pattern, lentSquare, patternOf}
 use Rattle.foundation.specs.Table.{Case, case}
 
 -- 1 for what holds, 0 for what does not
@@ -54,4 +54,4 @@ tall = record { n = 2; height = 3; row = λ i. 1 ∷ 2 ∷ [] }
 
 -- three rows on two columns: {1,2}, {2}, {1,2}
 abbrev pub threeOnTwo : Pattern
-threeOnTwo = record { n = 2; height = 3; row = (patternOf (lent 3 (0 ∷ 2 ∷ 3 ∷ 5 ∷ []) (1 ∷ 2 ∷ 2 ∷ 1 ∷ 2 ∷ []))) .row }
+threeOnTwo = record { n = 2; height = 3; row = (patternOf (lentSquare 3 (0 ∷ 2 ∷ 3 ∷ 5 ∷ []) (1 ∷ 2 ∷ 2 ∷ 1 ∷ 2 ∷ []))) .row }

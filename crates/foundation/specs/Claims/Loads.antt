@@ -10,7 +10,7 @@ use lib.ListN.{length, getD, take, drop, replicate}
 use Rattle.lists.specs.Functions.{keep}
 use Rattle.lists.specs.Sets.{member}
 use Rattle.foundation.specs.Answer.{refused, granted}
-use Rattle.foundation.specs.Pattern.{Lent, lent, rowOf, patternFault}
+use Rattle.foundation.specs.Pattern.{Lent, lentSquare, rowOf, patternFault}
 use Rattle.foundation.specs.Numbers.{plusZero, floatOf}
 use Rattle.foundation.specs.RunCall.{Lending, allFinite}
 use Rattle.foundation.specs.Draw.{mixed, drawnValue}
@@ -69,7 +69,7 @@ LoadsStand =
 
 -- the pattern that a caller has of a load: its n, the row starts, and the first `count` columns
 unfoldable pub patternLeft : ℕ → ℕ → ℕ → LoadSizes → ℕ → Lent
-patternLeft seed n d w count = lent n ((loadLeaves seed n d w) .starts) (take count ((loadLeaves seed n d w) .columns))
+patternLeft seed n d w count = lentSquare n ((loadLeaves seed n d w) .starts) (take count ((loadLeaves seed n d w) .columns))
 
 -- Every load that is granted is a pattern that can be planned: its row starts and its entries pass 1 to 5, whatever the largest n of a caller that takes this n.
 unfoldable pub LoadsPass : Type 0

@@ -16,20 +16,20 @@ use Rattle.foundation.specs.Plan.{Planning, InStep, influenced, after, a
 
 -- Row i has its first entry in column k: one there and none before.
 unfoldable pub FirstEntry : Lent → ℕ → ℕ → Type 0
-FirstEntry p k i = (1 ≤ i) × (i ≤ p .n) × (member k (rowOf p i) ≡ true) × ((j : ℕ) → j < k → member j (rowOf p i) ≡ false)
+FirstEntry p k i = (1 ≤ i) × (i ≤ p .height) × (member k (rowOf p i) ≡ true) × ((j : ℕ) → j < k → member j (rowOf p i) ≡ false)
 
--- The met rows are those with an entry in some column up to m; and those that were met first at one of the steps 1 to m are those with their first entry in its column.
+-- The met rows are those with an entry in some column up to m; and those that were met first at a step, one of the steps 1 to m, are those with their first entry in its column.
 unfoldable pub RowsMet : Lent → Planning → ℕ → Type 0
 RowsMet p s m =
-    ((i : ℕ) → (s .met i ≡ true) ↔ ((1 ≤ i) × (i ≤ p .n) × ((j : ℕ) × (j ≤ m) × (member j (rowOf p i) ≡ true))))
-    × ((l i : ℕ) → 1 ≤ l → l ≤ m → (member i (s .firstMet l) ≡ true) ↔ FirstEntry p l i)
+    ((i : ℕ) → (s .met i ≡ true) ↔ ((1 ≤ i) × (i ≤ p .height) × ((j : ℕ) × (j ≤ m) × (member j (rowOf p i) ≡ true))))
+    × ((l i : ℕ) → (member i (s .firstMet l) ≡ true) ↔ ((1 ≤ l) × (l ≤ m) × FirstEntry p l i))
 
--- Step l is in S_r just where it is one of the steps 1 to m, L_l has more than one member and r is the least member of U_l above l; and no set has a step twice, since
--- each has the newest first.
+-- Step l is in S_r just where it is one of the steps 1 to m, L_l has more than one member and r is the least member of U_l above l, so that S_0 is empty (document 02, ticket 9: "step k
+-- joins no S if U_k has no further member"); and no set has a step twice, since each has the newest first.
 unfoldable pub SetsJoined : Lent → Planning → ℕ → Type 0
 SetsJoined p s m =
-    ((l r : ℕ) → 1 ≤ r → (member l (s .S r) ≡ true)
-    ↔ ((1 ≤ l) × (l ≤ m) × (1 < length ((plan (patternOf p)) .L l)) × (leastAbove l ((plan (patternOf p)) .U l) ≡ r)))
+    ((l r : ℕ) → (member l (s .S r) ≡ true)
+    ↔ ((1 ≤ r) × (1 ≤ l) × (l ≤ m) × (1 < length ((plan (patternOf p)) .L l)) × (leastAbove l ((plan (patternOf p)) .U l) ≡ r)))
     × ((r : ℕ) → Falling (suc m) (s .S r))
 
 -- The lists of the steps up to m are those of the plan, those of the steps after m are empty.

@@ -7,8 +7,8 @@ use Rattle.job_report.proofs.put_ran.Tie as tie
 enum-known-outcome : tie.Need-enum-known-outcome
 enum-known-outcome c = search needs
 
-count-numbers-requires : tie.Need-count-numbers-requires
-count-numbers-requires c κs = tt
+line-numbers-requires : tie.Need-line-numbers-requires
+line-numbers-requires c κs = tt
 
 slice-aggregate-put-report : tie.Need-slice-aggregate-put-report
 slice-aggregate-put-report c = search needs
@@ -30,8 +30,8 @@ same-length c = c .before .before .put-report .kept .0
 
 returns : tie.Need-returns
 returns c =
-    let at-count-numbers = c .before .before .before .before .before in
-    λ p a h. finished-put p a _ _ _ _ h _ _ (at-count-numbers .before .before .outcome .given .1) (at-count-numbers .count-numbers .ensures)
+    let at-line-numbers = c .before .before .before .before .before in
+    λ p a h. finished-put p a _ _ _ _ h _ _ (at-line-numbers .before .before .outcome .given .1) (at-line-numbers .line-numbers .ensures)
     (λ r f. c .before .before .put-report .ensures p r f)
 
 same-length-2 : tie.Need-same-length-2
@@ -48,7 +48,7 @@ put-ran-spec =
     tie.close
     (tie.spec
     enum-known-outcome
-    count-numbers-requires
+    line-numbers-requires
     slice-aggregate-put-report
     put-report-requires
     enum-known-outcome-2

@@ -96,22 +96,22 @@ plan-requires : tie.Need-plan-requires
 plan-requires c κs = tt
 
 same-length : tie.Need-same-length
-same-length c = plan-from-end c .plan .kept .1 .1 .1 .1 .0
+same-length c = plan-from-end c .plan .kept .1 .1 .1 .1 .1 .0
 
 same-length-2 : tie.Need-same-length-2
-same-length-2 c = plan-from-end c .plan .kept .1 .1 .1 .1 .1 .0
+same-length-2 c = plan-from-end c .plan .kept .1 .1 .1 .1 .1 .1 .0
 
 same-length-3 : tie.Need-same-length-3
-same-length-3 c = plan-from-end c .plan .kept .1 .1 .1 .1 .1 .1 .0
+same-length-3 c = plan-from-end c .plan .kept .1 .1 .1 .1 .1 .1 .1 .0
 
 same-length-4 : tie.Need-same-length-4
-same-length-4 c = plan-from-end c .plan .kept .1 .1 .1 .1 .1 .1 .1 .0
+same-length-4 c = plan-from-end c .plan .kept .1 .1 .1 .1 .1 .1 .1 .1 .0
 
 same-length-5 : tie.Need-same-length-5
-same-length-5 c = plan-from-end c .plan .kept .1 .1 .1 .1 .1 .1 .1 .1 .0
+same-length-5 c = plan-from-end c .plan .kept .1 .1 .1 .1 .1 .1 .1 .1 .1 .0
 
 same-length-6 : tie.Need-same-length-6
-same-length-6 c = plan-from-end c .plan .kept .1 .1 .1 .1 .1 .1 .1 .1 .1 .0
+same-length-6 c = plan-from-end c .plan .kept .1 .1 .1 .1 .1 .1 .1 .1 .1 .1 .0
 
 returns : tie.Need-returns
 returns c =

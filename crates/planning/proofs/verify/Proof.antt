@@ -22,35 +22,35 @@ clear-work-requires c κs = tt
 same-length : tie.Need-same-length
 same-length c =
     let at-clear-work = clear-work-from-end c in
-    at-clear-work .clear-work .kept .0 ∙ judge-and-verify-from-clear-work at-clear-work .judge-and-verify .kept .1 .1 .1 .1 .1 .1 .1 .1 .1 .1 .1 .0
+    at-clear-work .clear-work .kept .0 ∙ judge-and-verify-from-clear-work at-clear-work .judge-and-verify .kept .1 .1 .1 .1 .1 .1 .1 .1 .1 .1 .1 .1 .0
 
 same-length-2 : tie.Need-same-length-2
 same-length-2 c =
     let at-clear-work = clear-work-from-end c in
-    at-clear-work .clear-work .kept .1 .0 ∙ judge-and-verify-from-clear-work at-clear-work .judge-and-verify .kept .1 .1 .1 .1 .1 .1 .1 .1 .1 .1 .1 .1 .0
+    at-clear-work .clear-work .kept .1 .0 ∙ judge-and-verify-from-clear-work at-clear-work .judge-and-verify .kept .1 .1 .1 .1 .1 .1 .1 .1 .1 .1 .1 .1 .1 .0
 
 same-length-3 : tie.Need-same-length-3
 same-length-3 c =
     let at-clear-work = clear-work-from-end c in
-    at-clear-work .clear-work .kept .1 .1 .0 ∙ judge-and-verify-from-clear-work at-clear-work .judge-and-verify .kept .1 .1 .1 .1 .1 .1 .1 .1 .1 .1 .1 .1 .1 .0
+    at-clear-work .clear-work .kept .1 .1 .0 ∙ judge-and-verify-from-clear-work at-clear-work .judge-and-verify .kept .1 .1 .1 .1 .1 .1 .1 .1 .1 .1 .1 .1 .1 .1 .0
 
 same-length-4 : tie.Need-same-length-4
 same-length-4 c =
     let at-clear-work = clear-work-from-end c in
     at-clear-work .clear-work .kept .1 .1 .1 .0 ∙
-    judge-and-verify-from-clear-work at-clear-work .judge-and-verify .kept .1 .1 .1 .1 .1 .1 .1 .1 .1 .1 .1 .1 .1 .1 .0
+    judge-and-verify-from-clear-work at-clear-work .judge-and-verify .kept .1 .1 .1 .1 .1 .1 .1 .1 .1 .1 .1 .1 .1 .1 .1 .0
 
 same-length-5 : tie.Need-same-length-5
 same-length-5 c =
     let at-clear-work = clear-work-from-end c in
     at-clear-work .clear-work .kept .1 .1 .1 .1 .0 ∙
-    judge-and-verify-from-clear-work at-clear-work .judge-and-verify .kept .1 .1 .1 .1 .1 .1 .1 .1 .1 .1 .1 .1 .1 .1 .1 .0
+    judge-and-verify-from-clear-work at-clear-work .judge-and-verify .kept .1 .1 .1 .1 .1 .1 .1 .1 .1 .1 .1 .1 .1 .1 .1 .1 .0
 
 same-length-6 : tie.Need-same-length-6
 same-length-6 c =
     let at-clear-work = clear-work-from-end c in
     at-clear-work .clear-work .kept .1 .1 .1 .1 .1 .0 ∙
-    judge-and-verify-from-clear-work at-clear-work .judge-and-verify .kept .1 .1 .1 .1 .1 .1 .1 .1 .1 .1 .1 .1 .1 .1 .1 .1 .0
+    judge-and-verify-from-clear-work at-clear-work .judge-and-verify .kept .1 .1 .1 .1 .1 .1 .1 .1 .1 .1 .1 .1 .1 .1 .1 .1 .1 .0
 
 returns : tie.Need-returns
 returns c =
@@ -59,13 +59,13 @@ returns c =
     record {
       answer = v .ensures;
       work = work-left (record {
-        first = v .kept .1 .1 .1 .1 .1 .1 .1 .1 .1 .1 .1 .0;
-        second = v .kept .1 .1 .1 .1 .1 .1 .1 .1 .1 .1 .1 .1 .0;
-        third = v .kept .1 .1 .1 .1 .1 .1 .1 .1 .1 .1 .1 .1 .1 .0;
+        first = v .kept .1 .1 .1 .1 .1 .1 .1 .1 .1 .1 .1 .1 .0;
+        second = v .kept .1 .1 .1 .1 .1 .1 .1 .1 .1 .1 .1 .1 .1 .0;
+        third = v .kept .1 .1 .1 .1 .1 .1 .1 .1 .1 .1 .1 .1 .1 .1 .0;
       }) (record {
-        first = v .kept .1 .1 .1 .1 .1 .1 .1 .1 .1 .1 .1 .1 .1 .1 .0;
-        second = v .kept .1 .1 .1 .1 .1 .1 .1 .1 .1 .1 .1 .1 .1 .1 .1 .0;
-        third = v .kept .1 .1 .1 .1 .1 .1 .1 .1 .1 .1 .1 .1 .1 .1 .1 .1 .0;
+        first = v .kept .1 .1 .1 .1 .1 .1 .1 .1 .1 .1 .1 .1 .1 .1 .1 .0;
+        second = v .kept .1 .1 .1 .1 .1 .1 .1 .1 .1 .1 .1 .1 .1 .1 .1 .1 .0;
+        third = v .kept .1 .1 .1 .1 .1 .1 .1 .1 .1 .1 .1 .1 .1 .1 .1 .1 .1 .0;
       }) (at-clear-work .clear-work .ensures);
     }
 

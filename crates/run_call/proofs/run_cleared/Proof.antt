@@ -22,7 +22,7 @@ run-planned-from-end2 c = c .before .before .before .before .before .before .bef
 -- what is asked of the run, and its result stores, as they stand at the start
 abbrev asked : tie.Start → Inputs
 asked s =
-    inputs (lent (s .args .n) (s .args .starts .now) (s .args .columns .now))
+    inputs (lent (s .args .n) (s .args .height) (s .args .starts .now) (s .args .columns .now))
     (lentPlan (s .args .counts) (planStores (s .args .l-subs .now) (s .args .l-starts .now) (s .args .l-slots .now) (s .args .u-subs .now)
     (s .args .u-starts .now) (s .args .u-slots .now)))
     (s .args .values .now) (s .args .right .now) (chosenBy (s .args .choice) (s .args .rows .now)) (extentOf (s .args .extent))
@@ -59,25 +59,25 @@ returns c =
     )
 
 same-length : tie.Need-same-length
-same-length c = run-planned-from-end2 c .run-planned .kept .1 .1 .1 .1 .1 .1 .1 .1 .1 .1 .1 .1 .1 .1 .0
+same-length c = run-planned-from-end2 c .run-planned .kept .1 .1 .1 .1 .1 .1 .1 .1 .1 .1 .1 .1 .1 .1 .1 .0
 
 same-length-2 : tie.Need-same-length-2
-same-length-2 c = run-planned-from-end2 c .run-planned .kept .1 .1 .1 .1 .1 .1 .1 .1 .1 .1 .1 .1 .1 .1 .1 .0
+same-length-2 c = run-planned-from-end2 c .run-planned .kept .1 .1 .1 .1 .1 .1 .1 .1 .1 .1 .1 .1 .1 .1 .1 .1 .0
 
 same-length-3 : tie.Need-same-length-3
-same-length-3 c = run-planned-from-end2 c .run-planned .kept .1 .1 .1 .1 .1 .1 .1 .1 .1 .1 .1 .1 .1 .1 .1 .1 .0
+same-length-3 c = run-planned-from-end2 c .run-planned .kept .1 .1 .1 .1 .1 .1 .1 .1 .1 .1 .1 .1 .1 .1 .1 .1 .1 .0
 
 same-length-4 : tie.Need-same-length-4
-same-length-4 c = run-planned-from-end2 c .run-planned .kept .1 .1 .1 .1 .1 .1 .1 .1 .1 .1 .1 .1 .1 .1 .1 .1 .1 .0
+same-length-4 c = run-planned-from-end2 c .run-planned .kept .1 .1 .1 .1 .1 .1 .1 .1 .1 .1 .1 .1 .1 .1 .1 .1 .1 .1 .0
 
 same-length-5 : tie.Need-same-length-5
-same-length-5 c = run-planned-from-end2 c .run-planned .kept .1 .1 .1 .1 .1 .1 .1 .1 .1 .1 .1 .1 .1 .1 .1 .1 .1 .1 .1 .1 .0
+same-length-5 c = run-planned-from-end2 c .run-planned .kept .1 .1 .1 .1 .1 .1 .1 .1 .1 .1 .1 .1 .1 .1 .1 .1 .1 .1 .1 .1 .1 .0
 
 same-length-6 : tie.Need-same-length-6
-same-length-6 c = run-planned-from-end2 c .run-planned .kept .1 .1 .1 .1 .1 .1 .1 .1 .1 .1 .1 .1 .1 .1 .1 .1 .1 .1 .0
+same-length-6 c = run-planned-from-end2 c .run-planned .kept .1 .1 .1 .1 .1 .1 .1 .1 .1 .1 .1 .1 .1 .1 .1 .1 .1 .1 .1 .0
 
 same-length-7 : tie.Need-same-length-7
-same-length-7 c = run-planned-from-end2 c .run-planned .kept .1 .1 .1 .1 .1 .1 .1 .1 .1 .1 .1 .1 .1 .1 .1 .1 .1 .1 .1 .0
+same-length-7 c = run-planned-from-end2 c .run-planned .kept .1 .1 .1 .1 .1 .1 .1 .1 .1 .1 .1 .1 .1 .1 .1 .1 .1 .1 .1 .1 .0
 
 returns-2 : tie.Need-returns-2
 unfolding lent
@@ -90,7 +90,7 @@ returns-2 c =
       run-planned .ensures .0,
       λ w. planned-left (asked a) (results a) (a .args .copy .now) (a .args .dense .now) w
           (rw (at-enum-told .enum-told .given .1) at (at-judge .judge .ensures)) (a .pre .1 .0) (a .pre .1 .1) (run-planned .result) _ (run-planned .ensures .1)
-          (run-planned .kept .1 .1 .1 .1 .1 .1 .1 .1 .1 .1 .1 .1 .1 .1 .0) (run-planned .kept .1 .1 .1 .1 .1 .1 .1 .1 .1 .1 .1 .1 .1 .1 .1 .0),
+          (run-planned .kept .1 .1 .1 .1 .1 .1 .1 .1 .1 .1 .1 .1 .1 .1 .1 .0) (run-planned .kept .1 .1 .1 .1 .1 .1 .1 .1 .1 .1 .1 .1 .1 .1 .1 .1 .0),
     )
 
 pub run-cleared-spec : {M : Type 1} → statement M

@@ -45,7 +45,7 @@ clear-if-stopped-from-end c = c .before .before .before .before .before .before 
 -- what is asked of the run, and its result stores, as they stand at the start
 abbrev asked : tie.Start → Inputs
 asked s =
-    inputs (lent (s .args .n) (s .args .starts .now) (s .args .columns .now))
+    inputs (lent (s .args .n) (s .args .height) (s .args .starts .now) (s .args .columns .now))
     (lentPlan (s .args .counts) (planStores (s .args .l-subs .now) (s .args .l-starts .now) (s .args .l-slots .now) (s .args .u-subs .now)
     (s .args .u-starts .now) (s .args .u-slots .now)))
     (s .args .values .now) (s .args .right .now) (chosenBy (s .args .choice) (s .args .rows .now)) (extentOf (s .args .extent))
@@ -78,21 +78,21 @@ same-length : tie.Need-same-length
 same-length c =
     let at-clear-if-stopped = clear-if-stopped-from-end c in
     let at-run-cleared = run-cleared-from-clear-if-stopped at-clear-if-stopped in
-    at-clear-if-stopped .clear-if-stopped .kept .1 .0 ∙ at-run-cleared .run-cleared .kept .1 .1 .1 .1 .1 .1 .1 .1 .1 .1 .1 .1 .1 .1 .1 .1 .0 ∙
+    at-clear-if-stopped .clear-if-stopped .kept .1 .0 ∙ at-run-cleared .run-cleared .kept .1 .1 .1 .1 .1 .1 .1 .1 .1 .1 .1 .1 .1 .1 .1 .1 .1 .0 ∙
     clear-results-from-run-cleared at-run-cleared .clear-results .kept .0
 
 same-length-2 : tie.Need-same-length-2
 same-length-2 c =
     let at-clear-if-stopped = clear-if-stopped-from-end c in
     let at-run-cleared = run-cleared-from-clear-if-stopped at-clear-if-stopped in
-    at-clear-if-stopped .clear-if-stopped .kept .1 .1 .0 ∙ at-run-cleared .run-cleared .kept .1 .1 .1 .1 .1 .1 .1 .1 .1 .1 .1 .1 .1 .1 .1 .1 .1 .0 ∙
+    at-clear-if-stopped .clear-if-stopped .kept .1 .1 .0 ∙ at-run-cleared .run-cleared .kept .1 .1 .1 .1 .1 .1 .1 .1 .1 .1 .1 .1 .1 .1 .1 .1 .1 .1 .0 ∙
     clear-results-from-run-cleared at-run-cleared .clear-results .kept .1 .0
 
 same-length-3 : tie.Need-same-length-3
 same-length-3 c =
     let at-clear-if-stopped = clear-if-stopped-from-end c in
     let at-run-cleared = run-cleared-from-clear-if-stopped at-clear-if-stopped in
-    at-clear-if-stopped .clear-if-stopped .kept .1 .1 .1 .0 ∙ at-run-cleared .run-cleared .kept .1 .1 .1 .1 .1 .1 .1 .1 .1 .1 .1 .1 .1 .1 .1 .1 .1 .1 .0 ∙
+    at-clear-if-stopped .clear-if-stopped .kept .1 .1 .1 .0 ∙ at-run-cleared .run-cleared .kept .1 .1 .1 .1 .1 .1 .1 .1 .1 .1 .1 .1 .1 .1 .1 .1 .1 .1 .1 .0 ∙
     clear-results-from-run-cleared at-run-cleared .clear-results .kept .1 .1 .0
 
 same-length-4 : tie.Need-same-length-4
@@ -100,7 +100,7 @@ same-length-4 c =
     let at-clear-if-stopped = clear-if-stopped-from-end c in
     let at-run-cleared = run-cleared-from-clear-if-stopped at-clear-if-stopped in
     at-clear-if-stopped .clear-if-stopped .kept .1 .1 .1 .1 .0 ∙
-    at-run-cleared .run-cleared .kept .1 .1 .1 .1 .1 .1 .1 .1 .1 .1 .1 .1 .1 .1 .1 .1 .1 .1 .1 .0 ∙
+    at-run-cleared .run-cleared .kept .1 .1 .1 .1 .1 .1 .1 .1 .1 .1 .1 .1 .1 .1 .1 .1 .1 .1 .1 .1 .0 ∙
     clear-results-from-run-cleared at-run-cleared .clear-results .kept .1 .1 .1 .0
 
 same-length-5 : tie.Need-same-length-5
@@ -108,19 +108,19 @@ same-length-5 c =
     let at-clear-if-stopped = clear-if-stopped-from-end c in
     let at-run-cleared = run-cleared-from-clear-if-stopped at-clear-if-stopped in
     at-clear-if-stopped .clear-if-stopped .kept .1 .1 .1 .1 .1 .0 ∙
-    at-run-cleared .run-cleared .kept .1 .1 .1 .1 .1 .1 .1 .1 .1 .1 .1 .1 .1 .1 .1 .1 .1 .1 .1 .1 .0 ∙
+    at-run-cleared .run-cleared .kept .1 .1 .1 .1 .1 .1 .1 .1 .1 .1 .1 .1 .1 .1 .1 .1 .1 .1 .1 .1 .1 .0 ∙
     clear-results-from-run-cleared at-run-cleared .clear-results .kept .1 .1 .1 .1 .0
 
 same-length-6 : tie.Need-same-length-6
 same-length-6 c =
     let at-clear-floats2 = clear-floats2-from-clear-if-stopped (clear-if-stopped-from-end c) in
     at-clear-floats2 .clear-floats2 .kept .0 ∙
-    run-cleared-from-clear-floats2 at-clear-floats2 .run-cleared .kept .1 .1 .1 .1 .1 .1 .1 .1 .1 .1 .1 .1 .1 .1 .1 .1 .1 .1 .1 .1 .1 .0
+    run-cleared-from-clear-floats2 at-clear-floats2 .run-cleared .kept .1 .1 .1 .1 .1 .1 .1 .1 .1 .1 .1 .1 .1 .1 .1 .1 .1 .1 .1 .1 .1 .1 .0
 
 same-length-7 : tie.Need-same-length-7
 same-length-7 c =
     let at-run-cleared = run-cleared-from-clear-if-stopped (clear-if-stopped-from-end c) in
-    at-run-cleared .run-cleared .kept .1 .1 .1 .1 .1 .1 .1 .1 .1 .1 .1 .1 .1 .1 .1 .1 .1 .1 .1 .1 .1 .1 .0 ∙
+    at-run-cleared .run-cleared .kept .1 .1 .1 .1 .1 .1 .1 .1 .1 .1 .1 .1 .1 .1 .1 .1 .1 .1 .1 .1 .1 .1 .1 .0 ∙
     clear-floats-from-run-cleared at-run-cleared .clear-floats .kept .0
 
 returns : tie.Need-returns
@@ -132,17 +132,17 @@ returns c w =
     let at-clear-results = clear-results-from-clear-floats at-clear-floats in
     let s = start-from-clear-results at-clear-results in
     run-left _ (asked s) w (results s) (s .args .copy .now) (s .args .dense .now) _ _ (at-run-cleared .run-cleared .result) _ _
-    (at-run-cleared .run-cleared .last .1 .1 .1 .1 .1 .1 .1 .1 .1 .1 .1 .1 .1 .1 .1 .1 .1 .1 .1 .1 .1 .0) _ _ (at-clear-results .clear-results .ensures)
+    (at-run-cleared .run-cleared .last .1 .1 .1 .1 .1 .1 .1 .1 .1 .1 .1 .1 .1 .1 .1 .1 .1 .1 .1 .1 .1 .1 .0) _ _ (at-clear-results .clear-results .ensures)
     (at-clear-floats .clear-floats .ensures) (at-run-cleared .run-cleared .ensures .1 w)
     (record {
-      l-size = at-run-cleared .run-cleared .kept .1 .1 .1 .1 .1 .1 .1 .1 .1 .1 .1 .1 .1 .1 .1 .1 .0;
-      u-size = at-run-cleared .run-cleared .kept .1 .1 .1 .1 .1 .1 .1 .1 .1 .1 .1 .1 .1 .1 .1 .1 .1 .0;
-      d-size = at-run-cleared .run-cleared .kept .1 .1 .1 .1 .1 .1 .1 .1 .1 .1 .1 .1 .1 .1 .1 .1 .1 .1 .0;
-      x-size = at-run-cleared .run-cleared .kept .1 .1 .1 .1 .1 .1 .1 .1 .1 .1 .1 .1 .1 .1 .1 .1 .1 .1 .1 .0;
-      pivots-size = at-run-cleared .run-cleared .kept .1 .1 .1 .1 .1 .1 .1 .1 .1 .1 .1 .1 .1 .1 .1 .1 .1 .1 .1 .1 .0;
+      l-size = at-run-cleared .run-cleared .kept .1 .1 .1 .1 .1 .1 .1 .1 .1 .1 .1 .1 .1 .1 .1 .1 .1 .0;
+      u-size = at-run-cleared .run-cleared .kept .1 .1 .1 .1 .1 .1 .1 .1 .1 .1 .1 .1 .1 .1 .1 .1 .1 .1 .0;
+      d-size = at-run-cleared .run-cleared .kept .1 .1 .1 .1 .1 .1 .1 .1 .1 .1 .1 .1 .1 .1 .1 .1 .1 .1 .1 .0;
+      x-size = at-run-cleared .run-cleared .kept .1 .1 .1 .1 .1 .1 .1 .1 .1 .1 .1 .1 .1 .1 .1 .1 .1 .1 .1 .1 .0;
+      pivots-size = at-run-cleared .run-cleared .kept .1 .1 .1 .1 .1 .1 .1 .1 .1 .1 .1 .1 .1 .1 .1 .1 .1 .1 .1 .1 .1 .0;
     })
-    (at-run-cleared .run-cleared .kept .1 .1 .1 .1 .1 .1 .1 .1 .1 .1 .1 .1 .1 .1 .1 .1 .1 .1 .1 .1 .1 .0) (at-clear-floats2 .clear-floats2 .ensures)
-    (at-run-cleared .run-cleared .kept .1 .1 .1 .1 .1 .1 .1 .1 .1 .1 .1 .1 .1 .1 .1 .1 .1 .1 .1 .1 .1 .1 .0) (at-run-cleared .run-cleared .ensures .0)
+    (at-run-cleared .run-cleared .kept .1 .1 .1 .1 .1 .1 .1 .1 .1 .1 .1 .1 .1 .1 .1 .1 .1 .1 .1 .1 .1 .1 .0) (at-clear-floats2 .clear-floats2 .ensures)
+    (at-run-cleared .run-cleared .kept .1 .1 .1 .1 .1 .1 .1 .1 .1 .1 .1 .1 .1 .1 .1 .1 .1 .1 .1 .1 .1 .1 .1 .0) (at-run-cleared .run-cleared .ensures .0)
     (at-clear-if-stopped .clear-if-stopped .ensures)
 
 pub run-verified-spec : {M : Type 1} → statement M

@@ -17,46 +17,66 @@ use Rattle.run_load.proofs.load.Statement.{statement}
 use Rattle.run_load.proofs.load.Tie as tie
 
 abbrev Inv-loop : tie.InvT-loop
-Inv-loop n starts columns values right l-subs l-starts l-slots u-subs u-starts u-slots l₀ u₀ d₀ x i₀ l u d i =
-    (i ≤ n) × ((length l ≡ length l₀) × (length u ≡ length u₀) × (length d ≡ length d₀))
+Inv-loop n height starts columns values right l-subs l-starts l-slots u-subs u-starts u-slots l₀ u₀ d₀ x i₀ l u d i =
+    (i ≤ height) × ((length l ≡ length l₀) × (length u ≡ length u₀) × (length d ≡ length d₀))
     × (length columns * 8 < 2 ^ 63)
-    × (i < n → (length starts ≡ n + 1) × (getD starts i 0 ≤ getD starts (i + 1) 0) × (getD starts (i + 1) 0 ≤ length columns) ×
+    × (i < height → (length starts ≡ height + 1) × (getD starts i 0 ≤ getD starts (i + 1) 0) × (getD starts (i + 1) 0 ≤ length columns) ×
     (getD starts (i + 1) 0 ≤ length values))
-    × ((x₀ : List Float) (w : LoadAsks (lent n starts columns) values right (planStores l-subs l-starts l-slots u-subs u-starts u-slots)
+    × ((x₀ : List Float) (w : LoadAsks (lent n height starts columns) values right (planStores l-subs l-starts l-slots u-subs u-starts u-slots)
     (squareStores l₀ u₀ d₀ x₀)) → Loaded (w .s) n (target _ _ _ _ _ w) (i + 1) [] l u d)
 
 abbrev μ-loop : tie.MeasureT-loop
-μ-loop n starts columns values right l-subs l-starts l-slots u-subs u-starts u-slots l₀ u₀ d₀ x i₀ l u d i = n - i
+μ-loop n height starts columns values right l-subs l-starts l-slots u-subs u-starts u-slots l₀ u₀ d₀ x i₀ l u d i = height - i
+
+-- Paths: TARGET-from-SOURCE leads from a place of the walk back to an earlier one. Made by tools/name_paths.py from the names of the two places.
+
+abbrev start-from-calling-copy-in : tie.After-copy-in-arg Inv-loop μ-loop → tie.Start Inv-loop μ-loop
+start-from-calling-copy-in c = c .before .before .before .before .before .before .before .before .before .before .before .before .before .before .before
+
+abbrev start-from-loop-end : tie.After-slice-known5 Inv-loop μ-loop → tie.Start Inv-loop μ-loop
+start-from-loop-end c = start-from-calling-copy-in (c .before .before .before)
+
+abbrev start-from-loop : tie.At-loop Inv-loop μ-loop → tie.Start Inv-loop μ-loop
+start-from-loop c = start-from-loop-end (c .before)
+
+abbrev in-loop-from-load-row : tie.After-load-row Inv-loop μ-loop → tie.In-loop Inv-loop μ-loop
+in-loop-from-load-row c = c .before .before .before .before .before .before .before .before
+
+abbrev in-loop-from-slice-known8 : tie.After-slice-known8 Inv-loop μ-loop → tie.In-loop Inv-loop μ-loop
+in-loop-from-slice-known8 c = in-loop-from-load-row (c .before .before .before .before .before .before)
+
+-- all rows are loaded
+returns : tie.Need-returns Inv-loop μ-loop
+unfolding lent
+returns c =
+    let b = c .before in
+    let copied = b .before .before .before .copy-in in
+    λ w. all-end _ _ _ _ _ w (b .loop .i) _ _ _ _ (c .loop-test .left) (b .loop .inv .0) (b .loop .inv .4 _ w)
+    (copied-whole _ _ (copied .kept .0 ∙ w .x-size ∙ sym (w .right-size)) (copied .ensures))
 
 -- the row at hand
 abbrev entry : tie.In-loop Inv-loop μ-loop → tie.Start Inv-loop μ-loop
-entry c =
-    c .before .before .before .before .before .before .before .before .before .before .before .before .before .before .before .before .before .before .before
-    .before
+entry c = start-from-loop (c .before)
 
 line : (c : tie.In-loop Inv-loop μ-loop) → LineLends (entry c .args .starts .now) (entry c .args .columns .now) (entry c .args .values .now)
     (c .before .loop .i)
-line c = line-lends _ _ _ (c .loop-test .taken) (c .before .loop .inv .3 (c .loop-test .taken)) (entry c .good .1 .0 .1) (c .before .loop .inv .2)
+line c = line-lends _ _ _ (c .loop-test .taken) (c .before .loop .inv .3 (c .loop-test .taken)) (entry c .good .1 .1 .0 .1) (c .before .loop .inv .2)
 
 copy-in-requires : tie.Need-copy-in-requires Inv-loop μ-loop
 unfolding lent
 copy-in-requires c κs =
-    let p = c .before .before .before .before .before .before .before .before .before .before .before .before .before .before .before .pre in le-of-eq
-    (p .right-size ∙ sym (p .x-size))
+    let p = start-from-calling-copy-in c .pre in
+    le-of-eq (p .right-size ∙ sym (p .x-size))
 
 loop-holds : tie.Need-loop-holds Inv-loop μ-loop
 unfolding lent
 loop-holds c =
-    let p = c .before .before .before .before .before .before .before .before .before .before .before .before .before .before .before .before .before .before
-    .pre in (
+    let start = start-from-loop-end c in (
       least _,
       (refl, refl, refl),
-      c .before .before .before .before .before .before .before .before .before .before .before .before .before .before .before .before .before .before .good
-          .1 .1 .0 .1,
-      λ l.
-          line-lies _ _ _ _ _ p _ l,
-      λ x w.
-          all-start _ _ _ _ _ w,
+      start .good .1 .1 .1 .0 .1,
+      λ l. line-lies _ _ _ _ _ (start .pre) _ l,
+      λ x w. all-start _ _ _ _ _ w,
     )
 
 mul-from : tie.Need-mul-from Inv-loop μ-loop
@@ -101,22 +121,23 @@ part-load-row-end-2 c = line (c .before .before .before) .in-values
 load-row-requires : tie.Need-load-row-requires Inv-loop μ-loop
 unfolding lent
 load-row-requires c κs =
-    let b = c .before .before .before .before .before .before .before .before in
-    let p = c .before .before .before .before .before .before .before .before .before .before .before .before .before .before .before .before .before .before
-    .before .before .before .before .before .before .before .before .before .pre in
-    line-asks _ _ _ _ _ p (b .loop .i) (c .before .before .before .before .before .before .before .loop-test .taken) _ _ _ (b .loop .inv .4 _ p)
+    let in-loop = c .before .before .before .before .before .before .before in
+    let b = in-loop .before in
+    let p = start-from-loop b .pre in
+    line-asks _ _ _ _ _ p (b .loop .i) (in-loop .loop-test .taken) _ _ _ (b .loop .inv .4 _ p)
 
 loop-less : tie.Need-loop-less Inv-loop μ-loop
-loop-less c = less _ _ (c .before .before .before .before .before .before .before .before .before .before .before .before .before .before .loop-test .taken)
+loop-less c = less _ _ (in-loop-from-slice-known8 c .loop-test .taken)
 
 loop-again : tie.Need-loop-again Inv-loop μ-loop
 unfolding lent
 loop-again c =
-    let b = c .before .before .before .before .before .before .before .before .before .before .before .before .before .before .before in
-    let k = c .before .before .before .before .before .before .load-row .kept in
-    let p = c .before .before .before .before .before .before .before .before .before .before .before .before .before .before .before .before .before .before
-    .before .before .before .before .before .before .before .before .before .before .before .before .before .before .before .before .pre in (
-      next-le _ _ (c .before .before .before .before .before .before .before .before .before .before .before .before .before .before .loop-test .taken),
+    let at-load-row = c .before .before .before .before .before .before in
+    let in-loop = in-loop-from-load-row at-load-row in
+    let b = in-loop .before in
+    let k = at-load-row .load-row .kept in
+    let p = start-from-loop b .pre in (
+      next-le _ _ (in-loop .loop-test .taken),
       (
         k .1 .1 .1 .1 .1 .1 .1 .1 .1 .0 ∙ b .loop .inv .1 .0,
         k .1 .1 .1 .1 .1 .1 .1 .1 .1 .1 .0 ∙ b .loop .inv .1 .1,
@@ -124,10 +145,7 @@ loop-again c =
       ),
       b .loop .inv .2,
       λ l. line-lies _ _ _ _ _ p _ l,
-      λ x w.
-          line-leaves _ _ _ _ _ w (b .loop .i)
-          (c .before .before .before .before .before .before .before .before .before .before .before .before .before .before .loop-test .taken) _ _ _ _ _ _
-          (b .loop .inv .4 x w) (c .before .before .before .before .before .before .load-row .ensures),
+      λ x w. line-leaves _ _ _ _ _ w (b .loop .i) (in-loop .loop-test .taken) _ _ _ _ _ _ (b .loop .inv .4 x w) (at-load-row .load-row .ensures),
     )
 
 same-length : tie.Need-same-length Inv-loop μ-loop
@@ -141,14 +159,6 @@ same-length-3 c = c .before .loop .inv .1 .2
 
 same-length-4 : tie.Need-same-length-4 Inv-loop μ-loop
 same-length-4 c = c .before .before .before .before .copy-in .kept .0
-
-returns : tie.Need-returns Inv-loop μ-loop
-unfolding lent
-returns c = λ w.
-    let b = c .before in
-    let copied = c .before .before .before .before .copy-in in
-    all-end _ _ _ _ _ w (b .loop .i) _ _ _ _ (c .loop-test .left) (b .loop .inv .0) (b .loop .inv .4 _ w) (copied-whole _ _ (copied .kept .0 ∙ w .x-size ∙
-    sym (w .right-size)) (copied .ensures))
 
 pub load-spec : {M : Type 1} → statement M
 load-spec =

@@ -150,7 +150,7 @@ mul-d c =
     let in-loop = in-loop-from-in-loop-else-else c in
     let b = in-loop .before in
     let p = start-from-loop b .pre in
-    let f = row-diagonal-inside _ _ _ _ _ _ _ p (b .loop .q) (in-loop .loop-test .taken) _ _ _ (b .loop .inv .3 p) in
+    let f = row-diagonal-inside _ _ _ _ _ _ _ p (b .loop .q) (in-loop .loop-test .taken) _ _ _ (b .loop .inv .3 p) (c .before .if1 .left) in
     index-fits f (room-same (b .loop .inv .1 .2) (b .loop .inv .2 .2))
 
 slice-write-d : tie.Need-slice-write-d Inv-loop μ-loop
@@ -158,7 +158,7 @@ slice-write-d c =
     let in-loop = in-loop-from-in-loop-else-else c in
     let b = in-loop .before in
     let p = start-from-loop b .pre in
-    row-diagonal-inside _ _ _ _ _ _ _ p (b .loop .q) (in-loop .loop-test .taken) _ _ _ (b .loop .inv .3 p)
+    row-diagonal-inside _ _ _ _ _ _ _ p (b .loop .q) (in-loop .loop-test .taken) _ _ _ (b .loop .inv .3 p) (c .before .if1 .left)
 
 loop-less-3 : tie.Need-loop-less-3 Inv-loop μ-loop
 loop-less-3 c = less _ _ (in-loop-from-in-loop-else-else c .loop-test .taken)

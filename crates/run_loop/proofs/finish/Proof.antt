@@ -25,9 +25,12 @@ returns c = cut-ends _ _ _ _ _ _ _ (c .before .before .before .end2 .given .1) (
 
 solve-requires : tie.Need-solve-requires
 solve-requires c κs =
-    let at-after-end2 = c .before .before .before .before in
+    let at-solves-else = c .before in
+    let at-solves = at-solves-else .before in
+    let at-after-end2 = at-solves .before .before in
     let start = start-from-after-end2 at-after-end2 in
-    may-solve _ (start .args .extent) _ _ _ _ _ (at-after-end2 .end2 .given .1) (start .pre)
+    may-solve _ (start .args .extent) _ _ _ _ _ (at-after-end2 .end2 .given .1) (sym (at-solves .solves .ensures) ∙
+    not-false _ (at-solves-else .if1 .left)) (start .pre)
 
 enum-told : tie.Need-enum-told
 enum-told c = search needs
@@ -57,8 +60,8 @@ returns-4 c =
     let at-solve = c .before .before .before .before .before in
     let at-solves-else = at-solve .before .before in
     let at-solves = at-solves-else .before in
-    unsolved-ends _ _ _ _ _ _ _ (at-solves .before .before .end2 .given .1) _ (sym (at-solves .solves .ensures) ∙
-    not-false _ (at-solves-else .if1 .left)) (rw (c .before .solved .given .1) at (at-solve .solve .ensures))
+    unsolved-ends _ _ _ _ _ _ _ (at-solves .before .before .end2 .given .1) (sym (at-solves .solves .ensures) ∙
+    not-false _ (at-solves-else .if1 .left)) _ (rw (c .before .solved .given .1) at (at-solve .solve .ensures))
 
 pub finish-spec : {M : Type 1} → statement M
 finish-spec =

@@ -58,23 +58,23 @@ finish-requires c κs =
 same-length : tie.Need-same-length
 same-length c =
     let at-run-steps = run-steps-from-end c in
-    at-run-steps .run-steps .kept .1 .1 .1 .1 .1 .1 .1 .1 .1 .0 ∙ load-from-run-steps at-run-steps .load .kept .1 .1 .1 .1 .1 .1 .1 .1 .1 .1 .1 .0
+    at-run-steps .run-steps .kept .1 .1 .1 .1 .1 .1 .1 .1 .1 .0 ∙ load-from-run-steps at-run-steps .load .kept .1 .1 .1 .1 .1 .1 .1 .1 .1 .1 .1 .1 .0
 
 same-length-2 : tie.Need-same-length-2
 same-length-2 c =
     let at-run-steps = run-steps-from-end c in
-    at-run-steps .run-steps .kept .1 .1 .1 .1 .1 .1 .1 .1 .1 .1 .0 ∙ load-from-run-steps at-run-steps .load .kept .1 .1 .1 .1 .1 .1 .1 .1 .1 .1 .1 .1 .0
+    at-run-steps .run-steps .kept .1 .1 .1 .1 .1 .1 .1 .1 .1 .1 .0 ∙ load-from-run-steps at-run-steps .load .kept .1 .1 .1 .1 .1 .1 .1 .1 .1 .1 .1 .1 .1 .0
 
 same-length-3 : tie.Need-same-length-3
 same-length-3 c =
     let at-run-steps = run-steps-from-end c in
-    at-run-steps .run-steps .kept .1 .1 .1 .1 .1 .1 .1 .1 .1 .1 .1 .0 ∙ load-from-run-steps at-run-steps .load .kept .1 .1 .1 .1 .1 .1 .1 .1 .1 .1 .1 .1 .1 .0
+    at-run-steps .run-steps .kept .1 .1 .1 .1 .1 .1 .1 .1 .1 .1 .1 .0 ∙ load-from-run-steps at-run-steps .load .kept .1 .1 .1 .1 .1 .1 .1 .1 .1 .1 .1 .1 .1 .1 .0
 
 same-length-4 : tie.Need-same-length-4
 same-length-4 c =
     let at-run-steps = run-steps-from-end c in
     c .before .before .finish .kept .1 .1 .1 .1 .1 .1 .1 .1 .0 ∙ at-run-steps .run-steps .kept .1 .1 .1 .1 .1 .1 .1 .1 .1 .1 .1 .1 .0 ∙
-    load-from-run-steps at-run-steps .load .kept .1 .1 .1 .1 .1 .1 .1 .1 .1 .1 .1 .1 .1 .1 .0
+    load-from-run-steps at-run-steps .load .kept .1 .1 .1 .1 .1 .1 .1 .1 .1 .1 .1 .1 .1 .1 .1 .0
 
 same-length-5 : tie.Need-same-length-5
 same-length-5 c = run-steps-from-end c .run-steps .kept .1 .1 .1 .1 .1 .1 .1 .1 .1 .1 .1 .1 .1 .0

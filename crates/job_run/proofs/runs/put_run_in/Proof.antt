@@ -1,5 +1,6 @@
 -- `put_run_in` meets its contract.
-use mathlib.Core.Path.{_∙_}
+use mathlib.Core.Path.{refl, _∙_}
+use Rattle.foundation.specs.Pattern.{lent}
 use Rattle.foundation.specs.Printing.{jobText, jobRun}
 use Rattle.job_run.proofs.Arrays.{at-most}
 use Rattle.job_run.proofs.Reports.{run-reported}
@@ -57,13 +58,13 @@ same-length-6 : tie.Need-same-length-6
 same-length-6 c = run-job-from-end c .run-job .kept .1 .1 .1 .1 .1 .1 .1 .1 .1 .1 .1 .1 .1 .1 .1 .1 .1 .0
 
 returns : tie.Need-returns
-unfolding jobFrom jobText
+unfolding jobFrom jobText lent
 returns c =
     let at-run-job = run-job-from-end c in
     let start = start-from-run-job at-run-job in
     let a = start .args in
     let job = jobFrom (a .n) (a .starts .now) (a .columns .now) (a .values .now) (a .right .now) (a .rows .now) in
-    c .before .before .put-ran .ensures (job .pattern) (jobRun job) (run-reported job _ _ (start .pre .2) _ _ _ (at-run-job .run-job .ensures))
+    c .before .before .put-ran .ensures (job .pattern) (jobRun job) (run-reported job _ _ refl (start .pre .2) _ _ _ (at-run-job .run-job .ensures))
 
 pub put-run-in-spec : {M : Type 1} → statement M
 put-run-in-spec =

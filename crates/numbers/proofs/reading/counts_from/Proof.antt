@@ -25,16 +25,21 @@ number-at-requires-6 c κs = search needs
 number-at-requires-7 : tie.Need-number-at-requires-7
 number-at-requires-7 c κs = search needs
 
+number-at-requires-8 : tie.Need-number-at-requires-8
+number-at-requires-8 c κs = search needs
+
 returns : tie.Need-returns
 unfolding countsFrom
 returns c =
-    let at-number-at4 = c .before .before .before in
+    let at-number-at5 = c .before .before .before in
+    let at-number-at4 = at-number-at5 .before in
     let at-number-at3 = at-number-at4 .before in
     let at-number-at2 = at-number-at3 .before in
     rw (
-      c .number-at7 .ensures,
-      c .before .number-at6 .ensures,
-      c .before .before .number-at5 .ensures,
+      c .number-at8 .ensures,
+      c .before .number-at7 .ensures,
+      c .before .before .number-at6 .ensures,
+      at-number-at5 .number-at5 .ensures,
       at-number-at4 .number-at4 .ensures,
       at-number-at3 .number-at3 .ensures,
       at-number-at2 .number-at2 .ensures,
@@ -52,4 +57,5 @@ counts-from-spec =
     number-at-requires-5
     number-at-requires-6
     number-at-requires-7
+    number-at-requires-8
     returns)

@@ -23,14 +23,17 @@ enum-told-5 c = search needs
 enum-told-6 : tie.Need-enum-told-6
 enum-told-6 c = search needs
 
+enum-told-7 : tie.Need-enum-told-7
+enum-told-7 c = search needs
+
 enum-known-r : tie.Need-enum-known-r
 enum-known-r c = search needs
 
 enum-known-r-2 : tie.Need-enum-known-r-2
 enum-known-r-2 c = search needs
 
-enum-told-7 : tie.Need-enum-told-7
-enum-told-7 c = search needs
+enum-told-8 : tie.Need-enum-told-8
+enum-told-8 c = search needs
 
 returns : tie.Need-returns
 unfolding refusalBy refusalOf
@@ -58,15 +61,19 @@ returns-6 c = rw (c .enum-told6 .given .1)
 
 returns-7 : tie.Need-returns-7
 unfolding refusalBy refusalOf
-returns-7 c = rw (c .before .r .given .1)
+returns-7 c = rw (c .enum-told7 .given .1)
 
 returns-8 : tie.Need-returns-8
 unfolding refusalBy refusalOf
-returns-8 c = rw (c .before .r2 .given .1)
+returns-8 c = rw (c .before .r .given .1)
 
 returns-9 : tie.Need-returns-9
 unfolding refusalBy refusalOf
-returns-9 c = rw (c .enum-told7 .given .1)
+returns-9 c = rw (c .before .r2 .given .1)
+
+returns-10 : tie.Need-returns-10
+unfolding refusalBy refusalOf
+returns-10 c = rw (c .enum-told8 .given .1)
 
 pub number-and-step-spec : {M : Type 1} → statement M
 number-and-step-spec =
@@ -78,9 +85,10 @@ number-and-step-spec =
     enum-told-4
     enum-told-5
     enum-told-6
+    enum-told-7
     enum-known-r
     enum-known-r-2
-    enum-told-7
+    enum-told-8
     returns
     returns-2
     returns-3
@@ -89,4 +97,5 @@ number-and-step-spec =
     returns-6
     returns-7
     returns-8
-    returns-9)
+    returns-9
+    returns-10)

@@ -34,6 +34,9 @@ array-read-t27 c = search needs
 array-read-t30 : tie.Need-array-read-t30
 array-read-t30 c = search needs
 
+array-read-t33 : tie.Need-array-read-t33
+array-read-t33 c = search needs
+
 slice-aggregate-put : tie.Need-slice-aggregate-put
 slice-aggregate-put c = search needs
 
@@ -80,6 +83,7 @@ tell-plan-spec =
     array-read-t24
     array-read-t27
     array-read-t30
+    array-read-t33
     slice-aggregate-put
     put-requires
     enum-known-answered-2

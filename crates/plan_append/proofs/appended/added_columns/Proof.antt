@@ -4,7 +4,6 @@ use native.Mathlib.Omega.{arith}
 use native.Mathlib.Nat.{le-refl, le-trans}
 use borrow.Author.Needs.{scaled-fits}
 use Rattle.lists.proofs.Small.{place-fits, before-fits, before-below}
-use Rattle.plan_gather.proofs.Gathering.{row-in-starts}
 use Rattle.plan_gather.proofs.Joining.{part-is}
 use Rattle.plan_append.specs.declared.appended.Added.the-variants.{Behind}
 use Rattle.plan_append.proofs.Joining.{added-as, last-asks, last-begins, last-inside, led-joined, led-row, next-fits}
@@ -69,10 +68,10 @@ sub-from c = led-row (start-from-making-from c .pre .0) .read .low
 mul-from : tie.Need-mul-from
 mul-from c =
     let start = start-from-making-from c in
-    before-fits (row-in-starts (led-row (start .pre .0) .read)) (start .good .1 .1 .1 .0 .1)
+    before-fits (led-row (start .pre .0) .read .in-starts) (start .good .1 .1 .1 .0 .1)
 
 shared-slice-read-from : tie.Need-shared-slice-read-from
-shared-slice-read-from c = before-below (row-in-starts (led-row (start-from-reading-from c .pre .0) .read))
+shared-slice-read-from c = before-below (led-row (start-from-reading-from c .pre .0) .read .in-starts)
 
 add-from : tie.Need-add-from
 add-from c =
@@ -83,10 +82,10 @@ add-from c =
 mul-to : tie.Need-mul-to
 mul-to c =
     let start = start-from-reading-from c in
-    scaled-fits _ _ _ (row-in-starts (led-row (start .pre .0) .read)) (start .good .1 .1 .1 .0 .1)
+    scaled-fits _ _ _ (led-row (start .pre .0) .read .in-starts) (start .good .1 .1 .1 .0 .1)
 
 shared-slice-read-to : tie.Need-shared-slice-read-to
-shared-slice-read-to c = row-in-starts (led-row (start-from-reading-to c .pre .0) .read)
+shared-slice-read-to c = led-row (start-from-reading-to c .pre .0) .read .in-starts
 
 mul-search-behind : tie.Need-mul-search-behind
 mul-search-behind c =

@@ -16,13 +16,13 @@ counts-of-requires : tie.Need-counts-of-requires
 counts-of-requires c κs = tt
 
 returns : tie.Need-returns
-returns c = answer-lower _ _ _ _ _ _ (c .before .ended .given .1)
+returns c = answer-lower _ _ _ _ _ _ _ (c .before .ended .given .1)
 
 returns-2 : tie.Need-returns-2
-returns-2 c = answer-upper _ _ _ _ _ _ (c .before .ended2 .given .1)
+returns-2 c = answer-upper _ _ _ _ _ _ _ (c .before .ended2 .given .1)
 
 returns-3 : tie.Need-returns-3
-returns-3 c = answer-all _ _ _ _ _ _ _ _ _ (c .before .before .ended3 .given .1) (c .counts-of .ensures)
+returns-3 c = answer-all _ _ _ _ _ _ _ _ _ _ (c .before .before .ended3 .given .1) (c .counts-of .ensures)
 
 pub answer-of-spec : {M : Type 1} → statement M
 answer-of-spec =

@@ -70,12 +70,12 @@ pattern-fault-requires : tie.Need-pattern-fault-requires
 pattern-fault-requires c κs = tt
 
 refusal-of-requires : tie.Need-refusal-of-requires
-refusal-of-requires c κs = fault-range _ _ _ _ _ (c .before .pattern-fault .ensures) (c .if1 .taken)
+refusal-of-requires c κs = fault-range _ _ _ _ _ _ (c .before .pattern-fault .ensures) (c .if1 .taken)
 
 returns : tie.Need-returns
 returns c =
     let a = start-from-refusal-of c .args in (
-      refuse-fault _ _ _ _ _ (c .before .before .pattern-fault .ensures)
+      refuse-fault _ _ _ _ _ _ (c .before .before .pattern-fault .ensures)
           (a .l-subs .now) (a .l-starts .now) (a .l-slots .now) (a .u-subs .now) (a .u-starts .now) (a .u-slots .now)
           (a .row-heads .now) (a .row-links .now) (a .set-heads .now) (a .set-links .now) (a .list .now) (a .spare .now)
           _ (c .before .if1 .taken) (c .refusal-of .ensures),
@@ -83,13 +83,13 @@ returns c =
     )
 
 lengths-fit-requires : tie.Need-lengths-fit-requires
-lengths-fit-requires c κs = fault-few _ _ _ _ _ (c .before .pattern-fault .ensures) (c .if1 .left)
+lengths-fit-requires c κs = fault-few _ _ _ _ _ _ (c .before .pattern-fault .ensures) (c .if1 .left)
 
 returns-2 : tie.Need-returns-2
 returns-2 c =
     let at-pattern-fault = c .before .before .before in
     let a = start-from-pattern-fault at-pattern-fault .args in (
-      refuse-lengths _ _ _ _ _ (at-pattern-fault .pattern-fault .ensures)
+      refuse-lengths _ _ _ _ _ _ (at-pattern-fault .pattern-fault .ensures)
           (a .l-subs .now) (a .l-starts .now) (a .l-slots .now) (a .u-subs .now) (a .u-starts .now) (a .u-slots .now)
           (a .row-heads .now) (a .row-links .now) (a .set-heads .now) (a .set-links .now) (a .list .now) (a .spare .now)
           _ (c .before .lengths-fit .ensures) (c .before .before .if1 .left) (not-true _ (c .if2 .taken)),
@@ -109,7 +109,7 @@ chain-rows-requires c κs =
     let at-pattern-fault-else = at-lengths-fit .before in
     let at-pattern-fault = at-pattern-fault-else .before in
     let a = start-from-pattern-fault at-pattern-fault .args in
-    rows-ask _ _ _ _ _ (at-pattern-fault .pattern-fault .ensures)
+    rows-ask _ _ _ _ _ _ (at-pattern-fault .pattern-fault .ensures)
     (a .l-subs .now) (a .l-starts .now) (a .l-slots .now) (a .u-subs .now) (a .u-starts .now) (a .u-slots .now)
     (a .row-heads .now) (a .row-links .now) (a .set-heads .now) (a .set-links .now) (a .list .now) (a .spare .now)
     _ (at-lengths-fit .lengths-fit .ensures) (at-pattern-fault-else .if1 .left) (not-false _ (at-lengths-fit-else .if2 .left))
@@ -128,7 +128,7 @@ plan-steps-requires c κs =
     let at-pattern-fault-else = at-lengths-fit .before in
     let at-pattern-fault = at-pattern-fault-else .before in
     let a = start-from-pattern-fault at-pattern-fault .args in
-    steps-ask _ _ _ _ _ (at-pattern-fault .pattern-fault .ensures)
+    steps-ask _ _ _ _ _ _ (at-pattern-fault .pattern-fault .ensures)
     (a .l-subs .now) (a .l-starts .now) (a .l-slots .now) (a .u-subs .now) (a .u-starts .now) (a .u-slots .now)
     (a .row-heads .now) (a .row-links .now) (a .set-heads .now) (a .set-links .now) (a .list .now) (a .spare .now)
     _ (at-lengths-fit .lengths-fit .ensures) (at-pattern-fault-else .if1 .left) (not-false _ (at-lengths-fit-else .if2 .left))
@@ -137,7 +137,7 @@ plan-steps-requires c κs =
 mul-l-last : tie.Need-mul-l-last
 mul-l-last c =
     let at-pattern-fault-else = pattern-fault-else-from-making-l-last c in
-    fault-place _ _ _ _ _ (at-pattern-fault-else .before .pattern-fault .ensures) (at-pattern-fault-else .if1 .left)
+    fault-place _ _ _ _ _ _ (at-pattern-fault-else .before .pattern-fault .ensures) (at-pattern-fault-else .if1 .left)
 
 slice-read-l-last : tie.Need-slice-read-l-last
 slice-read-l-last c =
@@ -148,7 +148,7 @@ slice-read-l-last c =
     let at-pattern-fault-else = at-lengths-fit .before in
     let at-pattern-fault = at-pattern-fault-else .before in
     let a = start-from-pattern-fault at-pattern-fault .args in
-    let fit = sizes _ _ _ _ _ (at-pattern-fault .pattern-fault .ensures)
+    let fit = sizes _ _ _ _ _ _ (at-pattern-fault .pattern-fault .ensures)
     (a .l-subs .now) (a .l-starts .now) (a .l-slots .now) (a .u-subs .now) (a .u-starts .now) (a .u-slots .now)
     (a .row-heads .now) (a .row-links .now) (a .set-heads .now) (a .set-links .now) (a .list .now) (a .spare .now)
     _ (at-lengths-fit .lengths-fit .ensures) (at-pattern-fault-else .if1 .left) (not-false _ (at-lengths-fit-else .if2 .left)) in
@@ -157,7 +157,7 @@ slice-read-l-last c =
 mul-u-last : tie.Need-mul-u-last
 mul-u-last c =
     let at-pattern-fault-else = pattern-fault-else-from-reading-l-last c in
-    fault-place _ _ _ _ _ (at-pattern-fault-else .before .pattern-fault .ensures) (at-pattern-fault-else .if1 .left)
+    fault-place _ _ _ _ _ _ (at-pattern-fault-else .before .pattern-fault .ensures) (at-pattern-fault-else .if1 .left)
 
 slice-read-u-last : tie.Need-slice-read-u-last
 slice-read-u-last c =
@@ -168,7 +168,7 @@ slice-read-u-last c =
     let at-pattern-fault-else = at-lengths-fit .before in
     let at-pattern-fault = at-pattern-fault-else .before in
     let a = start-from-pattern-fault at-pattern-fault .args in
-    let fit = sizes _ _ _ _ _ (at-pattern-fault .pattern-fault .ensures)
+    let fit = sizes _ _ _ _ _ _ (at-pattern-fault .pattern-fault .ensures)
     (a .l-subs .now) (a .l-starts .now) (a .l-slots .now) (a .u-subs .now) (a .u-starts .now) (a .u-slots .now)
     (a .row-heads .now) (a .row-links .now) (a .set-heads .now) (a .set-links .now) (a .list .now) (a .spare .now)
     _ (at-lengths-fit .lengths-fit .ensures) (at-pattern-fault-else .if1 .left) (not-false _ (at-lengths-fit-else .if2 .left)) in
@@ -242,7 +242,7 @@ returns-3 c =
     let at-pattern-fault = at-pattern-fault-else .before in
     let a = start-from-pattern-fault at-pattern-fault .args in
     let s = at-plan-steps .plan-steps in
-    steps-end _ _ _ _ _ (at-pattern-fault .pattern-fault .ensures)
+    steps-end _ _ _ _ _ _ (at-pattern-fault .pattern-fault .ensures)
     (a .l-subs .now) (a .l-starts .now) (a .l-slots .now) (a .u-subs .now) (a .u-starts .now) (a .u-slots .now)
     (a .row-heads .now) (a .row-links .now) (a .set-heads .now) (a .set-links .now) (a .list .now) (a .spare .now)
     _ (at-lengths-fit .lengths-fit .ensures) (at-pattern-fault-else .if1 .left) (not-false _ (at-lengths-fit-else .if2 .left))

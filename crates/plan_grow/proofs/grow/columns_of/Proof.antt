@@ -1,5 +1,5 @@
 -- `columns_of` meets its contract. The loop's invariant: the list grown and what the rest of the chain brings make what all its rows bring to U.
--- The chain ascends, so what is left of the numbers up to n falls.
+-- The chain ascends, so what is left of the rows falls.
 use mathlib.Core.Bool.{true}
 use mathlib.Core.Path.{_≡_, sym, ap, _∙_}
 use Prim.Native.Nat.{_<_}
@@ -7,13 +7,14 @@ use native.Mathlib.Nat.{le-trans}
 use lib.ListN.{length}
 use borrow.Author.Needs.{scaled-fits}
 use Rattle.lists.specs.Sets.{member}
-use Rattle.foundation.specs.Pattern.{Lent, lent}
+use Rattle.foundation.specs.Pattern.{Lent}
 use Rattle.foundation.specs.Plan.{upper}
 use Rattle.lists.proofs.Small.{before-fits, before-below, place-fits}
-use Rattle.plan_gather.specs.Ready.{planOf}
+use Rattle.plan_gather.specs.Ready.{lentBy, planOf}
 use Rattle.plan_gather.specs.Gathering.{without}
 use Rattle.plan_gather.specs.Steps.{StepOf}
-use Rattle.plan_gather.proofs.Gathering.{RowRead, row-in-starts}
+use Rattle.plan_gather.proofs.Gathering.{RowRead, met-row}
+use Rattle.plan_gather.proofs.Turning.{step-high}
 use Rattle.plan_grow.proofs.Turns.{RowsJoined, left, lent-step, rows-start, rows-on, rows-less, row-turn, columns-brought, brought-within}
 use Rattle.plan_grow.proofs.Growing.{gathers-here, gathers-turn, gathers-end}
 use Rattle.plan_grow.proofs.grow.columns_of.Statement.{statement}
@@ -21,10 +22,10 @@ use Rattle.plan_grow.proofs.grow.columns_of.Tie as tie
 
 abbrev Inv-loop : tie.InvT-loop
 Inv-loop n k first links starts columns growing₀ count₀ i₀ growing count i =
-    RowsJoined (lent n starts columns) upper n k count growing links i
+    RowsJoined (lentBy n starts columns) upper k count growing links i
 
 abbrev μ-loop : tie.MeasureT-loop
-μ-loop n k first links starts columns growing₀ count₀ i₀ growing count i = left n i
+μ-loop n k first links starts columns growing₀ count₀ i₀ growing count i = left (lentBy n starts columns .height) i
 
 -- Paths: TARGET-from-SOURCE leads from a place of the walk back to an earlier one. Made by tools/name_paths.py from the names of the two places.
 
@@ -36,7 +37,7 @@ start c = c .before .before .before .before .before .before
 
 -- the pattern that is lent
 abbrev pattern : tie.Start Inv-loop μ-loop → Lent
-pattern s = lent (s .args .n) (s .args .starts .now) (s .args .columns .now)
+pattern s = lentBy (s .args .n) (s .args .starts .now) (s .args .columns .now)
 
 -- and its step k
 step : (s : tie.Start Inv-loop μ-loop) → StepOf (pattern s) (s .args .n) (s .args .k)
@@ -63,16 +64,16 @@ sub-from : tie.Need-sub-from Inv-loop μ-loop
 sub-from c = read c .low
 
 mul-from : tie.Need-mul-from Inv-loop μ-loop
-mul-from c = before-fits (row-in-starts (read c)) (start c .good .1 .1 .1 .1 .0 .1)
+mul-from c = before-fits (read c .in-starts) (start c .good .1 .1 .1 .1 .0 .1)
 
 shared-slice-read-from : tie.Need-shared-slice-read-from Inv-loop μ-loop
-shared-slice-read-from c = before-below (row-in-starts (read (c .before)))
+shared-slice-read-from c = before-below (read (c .before) .in-starts)
 
 mul-to : tie.Need-mul-to Inv-loop μ-loop
-mul-to c = scaled-fits _ _ _ (row-in-starts (read (c .before))) (c .before .before .before .before .before .before .before .good .1 .1 .1 .1 .0 .1)
+mul-to c = scaled-fits _ _ _ (read (c .before) .in-starts) (c .before .before .before .before .before .before .before .good .1 .1 .1 .1 .0 .1)
 
 shared-slice-read-to : tie.Need-shared-slice-read-to Inv-loop μ-loop
-shared-slice-read-to c = row-in-starts (read (c .before .before))
+shared-slice-read-to c = read (c .before .before) .in-starts
 
 mul-join : tie.Need-mul-join Inv-loop μ-loop
 mul-join c =
@@ -94,7 +95,7 @@ join-requires c κs =
     let at = c .before .before .before .before in
     let of = step (start at) in
     let g = at .before .loop .inv in
-    (g .so-far, g .grown, g .within, brought-within of upper _ (met at) _ (columns-brought _ _ _ of _ (met at)))
+    (_, g .so-far, g .grown, g .within, brought-within of upper _ (met at) _ (columns-brought _ _ _ of _ (met at)))
 
 mul-i : tie.Need-mul-i Inv-loop μ-loop
 mul-i c =
@@ -107,7 +108,7 @@ shared-slice-read-i c = here (in-loop-from-reading-i c)
 loop-less : tie.Need-loop-less Inv-loop μ-loop
 loop-less c =
     let at = in-loop-from-reading-i c in
-    rows-less (at .before .loop .inv) (at .loop-test .taken) (read at .high)
+    rows-less (at .before .loop .inv) (at .loop-test .taken) (let of = step (start at) in met-row _ (of .ready) _ (of .low) (step-high of) _ (met at) .1)
 
 loop-again : tie.Need-loop-again Inv-loop μ-loop
 loop-again c =
@@ -117,7 +118,7 @@ loop-again c =
     let e = columns-brought _ _ _ of _ (met at) in
     let g = at .before .loop .inv in
     gathers-turn g (at .loop-test .taken) _ (brought-within of upper _ (met at) _ e) (ap (without _) e) (rows-on _)
-    (at-join .join .ensures (g .so-far) (g .grown))
+    (at-join .join .ensures _ (g .so-far) (g .grown))
 
 same-length : tie.Need-same-length Inv-loop μ-loop
 same-length c = gathers-end (c .before .loop .inv) (c .loop-test .left) .store-size ∙ sym (c .before .before .before .before .before .before .pre .1 .1)

@@ -15,7 +15,7 @@ returns c = rw (c .before .before .before .before .if1 .taken) (c .before .befor
 numbers-of-requires : tie.Need-numbers-of-requires
 numbers-of-requires c κs =
     let s = c .before .before .before .before .before .before in
-    ((_, lent-step _ _ _ (s .pre .0), s .pre .1 .0), s .pre .1 .1)
+    (_, lent-step _ _ _ (s .pre .0), s .pre .1 .0, s .pre .1 .1)
 
 same-length-2 : tie.Need-same-length-2
 same-length-2 c = c .before .before .numbers-of .kept .1 .1 .1 .1 .0
@@ -24,7 +24,7 @@ returns-2 : tie.Need-returns-2
 returns-2 c =
     let at-else = c .before .before .before .before in
     let s = at-else .before .before .before .before .before in
-    rw (at-else .if1 .left) (c .before .before .numbers-of .ensures _ (lent-step _ _ _ (s .pre .0)) (s .pre .1 .0))
+    rw (at-else .if1 .left) (c .before .before .numbers-of .ensures _ (lent-step _ _ _ (s .pre .0)) (s .pre .1 .0) (s .pre .1 .1))
 
 pub from-rows-spec : {M : Type 1} → statement M
 from-rows-spec =

@@ -60,7 +60,7 @@ join-requires c κs =
     let r = read at in
     let g = at .before .loop .inv _ _ (start at .pre .2) in
     let e = c .before .list-at .ensures ∙ opened-list (r .opens) (c .before .before .list-place .ensures) in
-    (g .so-far, g .grown, g .within, rw e (r .within))
+    (_, g .so-far, g .grown, g .within, rw e (r .within))
 
 mul-l : tie.Need-mul-l Inv-loop μ-loop
 mul-l c =
@@ -73,7 +73,7 @@ shared-slice-read-l c = here (in-loop-from-reading-l c)
 loop-less : tie.Need-loop-less Inv-loop μ-loop
 loop-less c =
     let at = in-loop-from-reading-l c in
-    steps-less (at .before .loop .inv _ _ (start at .pre .2)) (at .loop-test .taken)
+    steps-less _ (at .before .loop .inv _ _ (start at .pre .2)) (at .loop-test .taken)
 
 loop-again : tie.Need-loop-again Inv-loop μ-loop
 loop-again c =
@@ -84,7 +84,7 @@ loop-again c =
     let r = step-turn ok _ (gathers-here g (at .loop-test .taken) .0) in
     let e = at-list-at .list-at .ensures ∙ opened-list (r .opens) (at-list-at .before .list-place .ensures) in
     gathers-turn g (at .loop-test .taken) _ (rw e (r .within)) (ap (without _) e) (steps-on _ _) (c .before .before .before .join .ensures
-    (g .so-far) (g .grown))
+    _ (g .so-far) (g .grown))
 
 same-length : tie.Need-same-length Inv-loop μ-loop
 same-length c =

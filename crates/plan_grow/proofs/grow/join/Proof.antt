@@ -19,7 +19,7 @@ part-search-behind-start c = zero-le
 part-search-behind-end : tie.Need-part-search-behind-end
 part-search-behind-end c =
     let start = c .before .before .before .before .before in
-    still-inside (start .pre .1 .fits) (start .pre .1 .store-size)
+    still-inside (start .pre .2 .fits) (start .pre .2 .store-size)
 
 search-behind-requires : tie.Need-search-behind-requires
 search-behind-requires c κs = tt
@@ -48,7 +48,7 @@ append-requires c κs =
     let at-search-behind = at-at .before .before in
     let at-after-first = at-search-behind .before .before .before .before in
     let s = at-after-first .before .before .before in
-    behind-room (s .pre .1) (s .pre .2) (s .pre .3) (at-after-first .after-first .ensures) _
+    behind-room (s .pre .2) (s .pre .3) (s .pre .4) (at-after-first .after-first .ensures) _
     (rw (at-at .at .given .1) at (at-search-behind .search-behind .ensures))
 
 same-length : tie.Need-same-length
@@ -61,7 +61,7 @@ returns c =
     let at-after-first = at-search-behind .before .before .before .before in
     let s = at-after-first .before .before .before in
     let a = c .before .before .append in
-    behind-grown (s .pre .1) (s .pre .2) (s .pre .3) (at-after-first .after-first .ensures) _
+    behind-grown (s .pre .2) (s .pre .3) (s .pre .4) (at-after-first .after-first .ensures) _
     (rw (at-at .at .given .1) at (at-search-behind .search-behind .ensures))
     (a .kept .1 .0) (a .ensures)
 
@@ -72,7 +72,7 @@ merge-in-requires : tie.Need-merge-in-requires
 merge-in-requires c κs =
     let at-after-first = c .before .before in
     let s = at-after-first .before .before .before in
-    merge-room (s .pre .1) (s .pre .2) (s .pre .3) (at-after-first .after-first .ensures)
+    merge-room (s .pre .2) (s .pre .3) (s .pre .4) (at-after-first .after-first .ensures)
 
 same-length-2 : tie.Need-same-length-2
 same-length-2 c = c .before .before .merge-in .kept .1 .1 .0
@@ -82,7 +82,7 @@ returns-2 c =
     let at-after-first = c .before .before .before .before .before in
     let s = at-after-first .before .before .before in
     let m = c .before .before .merge-in in
-    merge-grown (s .pre .1) (s .pre .2) (s .pre .3) (at-after-first .after-first .ensures) (m .kept .1 .1 .0) (m .ensures)
+    merge-grown (s .pre .2) (s .pre .3) (s .pre .4) (at-after-first .after-first .ensures) (m .kept .1 .1 .0) (m .ensures)
 
 pub join-spec : {M : Type 1} → statement M
 join-spec =

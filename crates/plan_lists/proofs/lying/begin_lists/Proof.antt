@@ -8,11 +8,11 @@ use Rattle.plan_lists.proofs.lying.begin_lists.Tie as tie
 
 returns : tie.Need-returns
 unfolding omit keep soFar initialized afterInitialization
-returns c = λ p n k row lowers uppers l u read. record {
+returns c = λ p k row lowers uppers l u read. record {
   lower-size = l;
   upper-size = u;
-  lower-lies = grown-none n lowers l;
-  upper-lies = grown-none n uppers u;
+  lower-lies = grown-none (p .height) lowers l;
+  upper-lies = grown-none (p .height) uppers u;
   counted = read;
 }
 

@@ -6,6 +6,7 @@ use native.Mathlib.Omega.{arith}
 use lib.ListN.{length}
 use Rattle.foundation.specs.Pattern.{lent}
 use Rattle.answers.specs.Stores.{planStores}
+use Rattle.plan_gather.specs.Ready.{lentBy}
 use Rattle.plan_gather.specs.Steps.{chainStores}
 use Rattle.plan_loop.proofs.Progress.{SameSizes, Underway, sizes-on, steps-start, step-asks, full-lower, full-upper, steps-turn, steps-end}
 use Rattle.plan_loop.proofs.steps.plan_steps.Statement.{statement}
@@ -14,7 +15,7 @@ use Rattle.plan_loop.proofs.steps.plan_steps.Tie as tie
 abbrev Inv-loop : tie.InvT-loop
 Inv-loop n starts columns row-heads₀ row-links set-heads₀ set-links₀ l-subs₀ l-starts₀ l-slots₀ u-subs₀ u-starts₀ u-slots₀ list₀ spare₀ l-end₀ u-end₀ reads₀ k₀
     row-heads set-heads set-links l-subs l-starts l-slots u-subs u-starts u-slots list spare l-end u-end reads k =
-    Underway (lent n starts columns) n k (length l-subs₀) (length u-subs₀) (chainStores row-heads row-links set-heads set-links)
+    Underway (lentBy n starts columns) n k (length l-subs₀) (length u-subs₀) (chainStores row-heads row-links set-heads set-links)
     (planStores l-subs l-starts l-slots u-subs u-starts u-slots) list spare (l-end .0) (u-end .0) reads
     × (length row-heads ≡ length row-heads₀)
     × SameSizes set-heads₀ set-heads set-links₀ set-links l-subs₀ l-subs l-starts₀ l-starts l-slots₀ l-slots
@@ -55,7 +56,7 @@ in-loop-from-making-k c =
     .before .before .before .before .before .before .before .before .before)
 
 loop-holds : tie.Need-loop-holds Inv-loop μ-loop
-unfolding lent
+unfolding lentBy lent
 loop-holds c =
     let s = start-from-loop-end c in (
       steps-start refl refl (s .pre .0) (s .pre .1 .0) (s .pre .1 .1),

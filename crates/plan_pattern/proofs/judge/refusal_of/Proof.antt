@@ -25,9 +25,13 @@ returns-4 c = ap (λ (x : ℕ). refused x 0) (sym (c .match .keys4))
 
 returns-5 : tie.Need-returns-5
 unfolding refusalOf
-returns-5 c =
+returns-5 c = ap (λ (x : ℕ). refused x 0) (sym (c .match .keys5))
+
+returns-6 : tie.Need-returns-6
+unfolding refusalOf
+returns-6 c =
     let none = c .match .rest in
-    ap (λ (x : ℕ). refused x 0) (last-fault _ (c .before .pre .0) (c .before .pre .1) (none .0 .0 .0 .1) (none .0 .0 .1) (none .0 .1) (none .1))
+    ap (λ (x : ℕ). refused x 0) (last-fault _ (c .before .pre) (none .0 .0 .0 .0 .1) (none .0 .0 .0 .1) (none .0 .0 .1) (none .0 .1) (none .1))
 
 pub refusal-of-spec : {M : Type 1} → statement M
-refusal-of-spec = tie.close (tie.spec returns returns-2 returns-3 returns-4 returns-5)
+refusal-of-spec = tie.close (tie.spec returns returns-2 returns-3 returns-4 returns-5 returns-6)

@@ -11,10 +11,11 @@ use Rattle.plan_pattern.proofs.judge.rows_fault.Statement.{statement}
 use Rattle.plan_pattern.proofs.judge.rows_fault.Tie as tie
 
 abbrev Inv-loop : tie.InvT-loop
-Inv-loop n starts columns i₀ i = (i ≤ n) × Fitted n starts columns × (rowsFault (lent n starts columns) (i + 1) (n - i) ≡ rowsFault (lent n starts columns) 1 n)
+Inv-loop n height starts columns i₀ i =
+    (i ≤ height) × Fitted height starts columns × (rowsFault (lent n height starts columns) (i + 1) (height - i) ≡ rowsFault (lent n height starts columns) 1 height)
 
 abbrev μ-loop : tie.MeasureT-loop
-μ-loop n starts columns i₀ i = n - i
+μ-loop n height starts columns i₀ i = height - i
 
 -- Paths: TARGET-from-SOURCE leads from a place of the walk back to an earlier one. Made by tools/name_paths.py from the names of the two places.
 
@@ -22,7 +23,7 @@ abbrev loop-from-entries-fault : tie.After-entries-fault Inv-loop μ-loop → ti
 loop-from-entries-fault c = c .before .before .before .before .before
 
 loop-holds : tie.Need-loop-holds Inv-loop μ-loop
-loop-holds c = (search needs, fitted _ _ _ (c .before .before .pre), rw sub-zero)
+loop-holds c = (search needs, fitted _ _ _ _ (c .before .before .pre), rw sub-zero)
 
 mul-from : tie.Need-mul-from Inv-loop μ-loop
 mul-from c = search needs
@@ -60,21 +61,21 @@ entries-fault-requires c κs = search needs
 returns : tie.Need-returns Inv-loop μ-loop
 returns c =
     let l = c .before .before .before .before .before .before .loop in
-    sym (rows-stop _ _ _ (l .inv .1) (l .i) (search needs) _ (c .before .entries-fault .ensures) (c .if1 .taken)) ∙ l .inv .2
+    sym (rows-stop _ _ _ (l .inv .1) (l .i) (search needs) _ _ (c .before .entries-fault .ensures) (c .if1 .taken)) ∙ l .inv .2
 
-add-has-member : tie.Need-add-has-member Inv-loop μ-loop
-add-has-member c = search needs
+add-has-diagonal : tie.Need-add-has-diagonal Inv-loop μ-loop
+add-has-diagonal c = search needs
 
-has-member-requires : tie.Need-has-member-requires Inv-loop μ-loop
-has-member-requires c κs = search needs
+has-diagonal-requires : tie.Need-has-diagonal-requires Inv-loop μ-loop
+has-diagonal-requires c κs = search needs
 
 returns-2 : tie.Need-returns-2 Inv-loop μ-loop
 returns-2 c =
     let at-entries-fault = c .before .before .before in
     let l = loop-from-entries-fault at-entries-fault .loop in
     let fault = at-entries-fault .entries-fault in
-    let lacks = sym (not-true _ (c .if2 .taken)) ∙ c .before .has-member .ensures in
-    sym (rows-lack _ _ _ (l .inv .1) (l .i) (search needs) _ (fault .ensures) (c .before .before .if1 .left) lacks) ∙ l .inv .2
+    let lacks = sym (not-true _ (c .if2 .taken)) ∙ c .before .has-diagonal .ensures in
+    sym (rows-lack _ _ _ (l .inv .1) (l .i) (search needs) _ _ (fault .ensures) (c .before .before .if1 .left) lacks) ∙ l .inv .2
 
 add-i : tie.Need-add-i Inv-loop μ-loop
 add-i c = search needs
@@ -87,8 +88,8 @@ loop-again c =
     let at-entries-fault = c .before .before .before in
     let l = loop-from-entries-fault at-entries-fault .loop in
     let fault = at-entries-fault .entries-fault in
-    let found = sym (not-false _ (c .if2 .left)) ∙ c .before .has-member .ensures in
-    (search needs, l .inv .1, sym (rows-pass _ _ _ (l .inv .1) (l .i) (search needs) _ (fault .ensures) (c .before .before .if1 .left) found) ∙ l .inv .2)
+    let found = sym (not-false _ (c .if2 .left)) ∙ c .before .has-diagonal .ensures in
+    (search needs, l .inv .1, sym (rows-pass _ _ _ (l .inv .1) (l .i) (search needs) _ _ (fault .ensures) (c .before .before .if1 .left) found) ∙ l .inv .2)
 
 returns-3 : tie.Need-returns-3 Inv-loop μ-loop
 returns-3 c =
@@ -113,8 +114,8 @@ rows-fault-spec =
     part-row-end
     entries-fault-requires
     returns
-    add-has-member
-    has-member-requires
+    add-has-diagonal
+    has-diagonal-requires
     returns-2
     add-i
     loop-less

@@ -2,6 +2,7 @@
 use borrow.Author.Needs.{needs}
 use Rattle.lists.proofs.Small.{index-fits}
 use Rattle.foundation.specs.Pattern.{lent}
+use Rattle.plan_gather.specs.Ready.{lentBy}
 use Rattle.plan_gather.proofs.Progress.{place-fits}
 use Rattle.plan_rows.proofs.Rows.{head-inside, rows-linked, rows-left, rows-walked, begun, one-row, row-inside, rows-read, read-fits}
 use Rattle.plan_rows.proofs.Rows.{no-rows, row-alone, rows-grown}
@@ -40,7 +41,7 @@ same-length : tie.Need-same-length
 same-length c = search needs
 
 returns : tie.Need-returns
-unfolding lent
+unfolding lentBy lent
 returns c =
     let s = c .before .before .before .before .before .before .before in
     let step = s .pre .0 .0 in
@@ -48,28 +49,28 @@ returns c =
     (no-rows step (s .pre .1 .1) _ linked (c .if1 .taken), rows-left step (s .pre .1 .0))
 
 row-reads-requires : tie.Need-row-reads-requires
-unfolding lent
+unfolding lentBy lent
 row-reads-requires c κs =
     let s = start-from-else c in
     let step = s .pre .0 .0 in
     (_, rows-walked step _ _ (rows-linked step (s .pre .1 .0) (s .pre .0 .1)))
 
 add-reads : tie.Need-add-reads
-unfolding lent
+unfolding lentBy lent
 add-reads c =
     let s = start-from-making-if2 c in
     let step = s .pre .0 .0 in
     read-fits step _ _ (rows-linked step (s .pre .1 .0) (s .pre .0 .1)) (begun step (s .pre .1 .1)) (c .before .row-reads .ensures)
 
 mul-if2 : tie.Need-mul-if2
-unfolding lent
+unfolding lentBy lent
 mul-if2 c =
     let s = start-from-making-if2 c in
     let step = s .pre .0 .0 in
     index-fits (row-inside step _ _ (rows-linked step (s .pre .1 .0) (s .pre .0 .1)) (c .before .before .if1 .left)) (s .good .1 .1 .1 .1 .1 .0 .1)
 
 shared-slice-read-if2 : tie.Need-shared-slice-read-if2
-unfolding lent
+unfolding lentBy lent
 shared-slice-read-if2 c =
     let at-else = c .before .before .before in
     let s = start-from-else at-else in
@@ -80,7 +81,7 @@ same-length-2 : tie.Need-same-length-2
 same-length-2 c = search needs
 
 returns-2 : tie.Need-returns-2
-unfolding lent
+unfolding lentBy lent
 returns-2 c =
     let at-row-reads = c .before .before .before in
     let at-else = at-row-reads .before in
@@ -91,14 +92,14 @@ returns-2 c =
     (row-alone step (s .pre .1 .1) (one-row step _ _ linked (at-else .if1 .left) (c .if2 .taken)) read, rows-left step (s .pre .1 .0))
 
 from-rows-requires : tie.Need-from-rows-requires
-unfolding lent
+unfolding lentBy lent
 from-rows-requires c κs =
     let s = start-from-calling-from-rows c in
     let step = s .pre .0 .0 in
     ((step .ready, step .low, step .high), (rows-linked step (s .pre .1 .0) (s .pre .0 .1), s .pre .1 .1 .lower-size))
 
 from-rows-requires-2 : tie.Need-from-rows-requires-2
-unfolding lent
+unfolding lentBy lent
 from-rows-requires-2 c κs =
     let s = start-from-calling-from-rows2 c in
     let step = s .pre .0 .0 in
@@ -114,7 +115,7 @@ same-length-5 : tie.Need-same-length-5
 same-length-5 c = search needs
 
 returns-3 : tie.Need-returns-3
-unfolding lent
+unfolding lentBy lent
 returns-3 c =
     let at-from-rows = c .before .before .before .before .before .before in
     let at-row-reads = at-from-rows .before .before .before .before .before in

@@ -60,7 +60,7 @@ obtain-rows-requires c κs =
     let ends = s .pre .1 .1 .0 in
     let sizes = s .pre .1 .1 .1 in (
       (s .pre .0 .0 .step, s .pre .1 .0 .1),
-      (s .pre .1 .0 .0 .row-chains, at-begin-lists .begin-lists .ensures _ _ _ _ _ _ (sizes .0) (sizes .1) (ends .read)),
+      (s .pre .1 .0 .0 .row-chains, at-begin-lists .begin-lists .ensures _ _ _ _ _ (sizes .0) (sizes .1) (ends .read)),
     )
 
 collect-influence-requires : tie.Need-collect-influence-requires

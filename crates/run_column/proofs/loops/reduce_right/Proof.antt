@@ -12,7 +12,7 @@ use Rattle.lists.proofs.Places.{map-upto-at}
 use Rattle.run_slots.proofs.Flags.{flag-set, flag-left}
 use Rattle.run_column.specs.Column.{Rewritten}
 use Rattle.run_slots.proofs.Products.{less-zero, less-nonzero}
-use Rattle.run_column.proofs.Rewriting.{row-low, rewriting-start, rewriting-reads, rewriting-turn, rewriting-end, followed-read}
+use Rattle.run_column.proofs.Rewriting.{row-low, row-high, rewriting-start, rewriting-reads, rewriting-turn, rewriting-end, followed-read}
 use Rattle.run_column.proofs.loops.reduce_right.Statement.{statement}
 use Rattle.run_column.proofs.loops.reduce_right.Tie as tie
 
@@ -42,7 +42,7 @@ entry c = c .before .before .before
 row : (c : tie.In-loop Inv-loop μ-loop) → Placed (length (c .before .loop .x)) (getD (entry c .args .rows .now) (c .before .loop .t) 0)
 row c =
     let s = entry c in
-    placed (row-low _ _ _ (s .pre .3) (s .pre .4) (c .loop-test .taken)) (c .before .loop .inv .1) (s .good .0 .1)
+    placed (row-low _ _ (s .pre .3) (c .loop-test .taken), row-high _ _ _ (s .pre .4) (c .loop-test .taken)) (c .before .loop .inv .1) (s .good .0 .1)
 
 sub-top : tie.Need-sub-top Inv-loop μ-loop
 sub-top c = c .pre .1
@@ -101,16 +101,17 @@ loop-again c =
     let b = in-loop .before in
     let g = b .before .before in
     let rows = g .args .rows .now in
-    let l = in-loop .loop-test .taken in (
+    let l = in-loop .loop-test .taken in
+    let high = row-high _ rows (b .loop .t) (g .pre .4) l in (
       next-le _ _ l,
       simp length-set (b .loop .inv .1),
       b .loop .inv .2,
       λ f m e v.
           let h = b .loop .inv .3 f m e v in
-          rewriting-turn _ _ rows _ _ _ _ (b .loop .t) h (g .pre .3) (g .pre .4) l _ _
+          rewriting-turn _ _ rows _ _ _ _ (b .loop .t) h (g .pre .3) l high _ _
           (followed-read f m rows _ _ _ _ (g .args .k) (b .loop .t) v l (b .loop .inv .2 ∙ ap (λ (zs : List Float). getD zs (g .args .k - 1) nan) e ∙
           map-upto-at f _ (g .args .k) nan (g .pre .1) (g .pre .2))
-          (rewriting-reads _ _ rows _ _ _ _ (b .loop .t) h (g .pre .3) (g .pre .4) l)
+          (rewriting-reads _ _ rows _ _ _ _ (b .loop .t) h (g .pre .3) l high)
           (⊎-elim (λ x. x .1 ∙ less-zero _ _ _ (x .0 .taken)) (λ x. x .1 ∙ less-nonzero _ _ _ (x .0 .left)) (c .before .if1 .came)))
           (⊎-elim (λ x. x .1 ∙ flag-set _ _ (x .0 .taken)) (λ x. x .1 ∙ flag-left _ _ (x .0 .left)) (c .if2 .came)),
     )

@@ -11,16 +11,16 @@ enum-told-2 : tie.Need-enum-told-2
 enum-told-2 c = search needs
 
 returns : tie.Need-returns
-returns c = λ p width height. list-none _ _ p (c .enum-told2 .given .1)
+returns c = λ p width tall. list-none _ _ p (c .enum-told2 .given .1)
 
 returns-2 : tie.Need-returns-2
-returns-2 c = λ p width height. list-long _ _ p _ (c .before .enum-told .given .1) (c .if1 .taken) width
+returns-2 c = λ p width tall. list-long _ _ p _ (c .before .enum-told .given .1) (c .if1 .taken) width
 
 rows-in-range-requires : tie.Need-rows-in-range-requires
 rows-in-range-requires c κs = search needs
 
 returns-3 : tie.Need-returns-3
-returns-3 c = λ p width height. list-range _ _ p _ _ (c .before .before .enum-told .given .1) (c .before .if1 .left) width height (c .rows-in-range .ensures)
+returns-3 c = λ p width tall. list-range _ _ p _ _ _ (c .before .before .enum-told .given .1) (c .before .if1 .left) width tall (c .rows-in-range .ensures)
 
 pub list-fits-spec : {M : Type 1} → statement M
 list-fits-spec =

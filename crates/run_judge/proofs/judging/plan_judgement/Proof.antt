@@ -13,16 +13,15 @@ refusal-judgement-requires c κs = search needs
 enum-told : tie.Need-enum-told
 enum-told c = search needs
 
+compared-plan-requires : tie.Need-compared-plan-requires
+compared-plan-requires c κs = tt
+
 returns : tie.Need-returns
 returns c = rw (c .before .before .verified .given .1) (c .refusal-judgement .ensures)
 
 returns-2 : tie.Need-returns-2
 unfolding planJudgement
-returns-2 c = rw (c .before .enum-told .given .1, c .if1 .taken)
-
-returns-3 : tie.Need-returns-3
-unfolding planJudgement
-returns-3 c = rw (c .before .enum-told .given .1, c .if1 .left)
+returns-2 c = rw (c .before .enum-told .given .1) (c .compared-plan .ensures)
 
 pub plan-judgement-spec : {M : Type 1} → statement M
 plan-judgement-spec =
@@ -31,6 +30,6 @@ plan-judgement-spec =
     enum-known-verified
     refusal-judgement-requires
     enum-told
+    compared-plan-requires
     returns
-    returns-2
-    returns-3)
+    returns-2)

@@ -31,6 +31,12 @@ enum-told-8 c = search needs
 enum-told-9 : tie.Need-enum-told-9
 enum-told-9 c = search needs
 
+enum-told-10 : tie.Need-enum-told-10
+enum-told-10 c = search needs
+
+compared-plan-requires : tie.Need-compared-plan-requires
+compared-plan-requires c κs = tt
+
 returns : tie.Need-returns
 unfolding planJudgement
 returns c = rw (c .enum-told .given .1)
@@ -65,11 +71,11 @@ returns-8 c = rw (c .enum-told8 .given .1)
 
 returns-9 : tie.Need-returns-9
 unfolding planJudgement
-returns-9 c = rw (c .before .enum-told9 .given .1, c .if1 .taken)
+returns-9 c = rw (c .enum-told9 .given .1)
 
 returns-10 : tie.Need-returns-10
 unfolding planJudgement
-returns-10 c = rw (c .before .enum-told9 .given .1, c .if1 .left)
+returns-10 c = rw (c .before .enum-told10 .given .1) (c .compared-plan .ensures)
 
 pub refusal-judgement-spec : {M : Type 1} → statement M
 refusal-judgement-spec =
@@ -84,6 +90,8 @@ refusal-judgement-spec =
     enum-told-7
     enum-told-8
     enum-told-9
+    enum-told-10
+    compared-plan-requires
     returns
     returns-2
     returns-3

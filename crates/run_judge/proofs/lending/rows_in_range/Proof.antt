@@ -10,11 +10,11 @@ use Rattle.run_judge.proofs.lending.rows_in_range.Statement.{statement}
 use Rattle.run_judge.proofs.lending.rows_in_range.Tie as tie
 
 abbrev Inv-loop : tie.InvT-loop
-Inv-loop n rows k₀ k =
-    (k ≤ length rows) × (rowsInRange n (k + 1) (drop k rows) ≡ rowsInRange n 1 rows)
+Inv-loop height rows k₀ k =
+    (k ≤ length rows) × (rowsInRange height (k + 1) (drop k rows) ≡ rowsInRange height 1 rows)
 
 abbrev μ-loop : tie.MeasureT-loop
-μ-loop n rows k₀ k = length rows - k
+μ-loop height rows k₀ k = length rows - k
 
 loop-holds : tie.Need-loop-holds Inv-loop μ-loop
 loop-holds c = (omega arith, refl)

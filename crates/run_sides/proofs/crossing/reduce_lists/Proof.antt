@@ -64,11 +64,13 @@ head : (c : tie.After-list-place Inv-loop μ-loop)
     (c .before .before .before .before .before .before .before .loop .y)
     (c .list-place .result .from .0) (c .list-place .result .to .0) (c .list-place .result .slot .0) (c .list-place .result .next .0)
 head c =
-    let in-loop = c .before .before .before .before .before .before in
+    let at-first-above = c .before .before .before in
+    let in-loop = at-first-above .before .before .before in
     let at-loop = in-loop .before in
     let s = start-from-loop at-loop in
-    head-lends _ _ _ _ _ _ _ _ (s .pre) _ _ _ _ (at-loop .loop .inv .4 (s .pre)) (in-loop .loop-test .taken) _ _ _ _ (c .list-place .ensures)
-    (s .good .1 .0 .1) (room-same (at-loop .loop .inv .2) (s .good .0 .1))
+    let q = at-first-above .first-above .ensures in
+    head-lends _ _ _ _ _ _ _ _ (s .pre) _ _ _ _ (at-loop .loop .inv .4 (s .pre)) (in-loop .loop-test .taken) _ (short-of (q .0) (c .before .if2 .left))
+    (q .1) (q .2) _ _ _ _ (c .list-place .ensures) (s .good .1 .0 .1) (room-same (at-loop .loop .inv .2) (s .good .0 .1))
 
 loop-holds : tie.Need-loop-holds Inv-loop μ-loop
 loop-holds c = (least _, least _, refl, under-start _ _, λ w. partly-start _ _ _ _ _ _ _ _ w _)
@@ -133,7 +135,9 @@ list-place-requires c κs =
     let in-loop = c .before .before .before .before .before in
     let at-loop = in-loop .before in
     let start = start-from-loop at-loop in
-    head-place _ _ _ _ _ _ _ _ (start .pre) _ _ _ _ (at-loop .loop .inv .4 (start .pre)) (in-loop .loop-test .taken) (start .good .1 .0 .1)
+    let q = c .before .before .first-above .ensures in
+    head-place _ _ _ _ _ _ _ _ (start .pre) _ _ _ _ (at-loop .loop .inv .4 (start .pre)) (in-loop .loop-test .taken) _ (short-of (q .0) (c .if2 .left))
+    (q .1) (q .2) (start .good .1 .0 .1)
 
 add-cell : tie.Need-add-cell Inv-loop μ-loop
 add-cell c =
@@ -207,8 +211,8 @@ reduce-list-requires c κs =
     let b = in-loop .before in
     let g = start-from-loop b in
     let q = at-first-above .first-above .ensures in
-    asked _ _ _ _ _ _ _ _ (g .pre) _ _ _ _ (b .loop .inv .4 (g .pre)) (in-loop .loop-test .taken) _ _ _ _ (at-list-place .list-place .ensures) _
-    (short-of (q .0) (at-first-above-else-else .if2 .left)) (q .1) (q .2) _ (at-first-above-else .if1 .left)
+    asked _ _ _ _ _ _ _ _ (g .pre) _ _ _ _ (b .loop .inv .4 (g .pre)) (in-loop .loop-test .taken) _
+    (short-of (q .0) (at-first-above-else-else .if2 .left)) (q .1) (q .2) _ _ _ _ (at-list-place .list-place .ensures) _ (at-first-above-else .if1 .left)
 
 loop-less-3 : tie.Need-loop-less-3 Inv-loop μ-loop
 loop-less-3 c = less _ _ (in-loop-from-loop-end3 c .loop-test .taken)
@@ -225,8 +229,8 @@ loop-again-3 c =
       q .0,
       c .before .y .given .1 ∙ b .loop .inv .2,
       under-next 0 _ _ _ _ (start-from-loop b .pre .reduction .once) l (q .1),
-      λ w. partly-turn _ _ _ _ _ _ _ _ w _ _ _ _ (b .loop .inv .4 w) l _ _ _ _ (at-list-place .list-place .ensures) _ _
-          (c .before .before .reduce-list .ensures),
+      λ w. partly-turn _ _ _ _ _ _ _ _ w _ _ _ _ (b .loop .inv .4 w) l _ (short-of (q .0) (at-list-place .before .if2 .left)) (q .1) (q .2) _ _ _ _
+          (at-list-place .list-place .ensures) _ _ (c .before .before .reduce-list .ensures),
     )
 
 same-length : tie.Need-same-length Inv-loop μ-loop

@@ -14,7 +14,7 @@ abbrev Inv-loop : tie.InvT-loop
 Inv-loop us first from own second guess u₀ t₀ next₀ u t next =
     (from ≤ t) × (t ≤ length us) × (length u ≡ length u₀)
     × ((w : BeyondAsks us (first .0) from own (second .0) u₀)
-    → Swapped (w .s) (w .n) (w .k) (w .p) t (w .square) (w .right) (squareStores (w .l) u (w .d) (w .x)))
+    → Swapped (w .s) (w .n) (w .height) (w .k) (w .p) t (w .square) (w .right) (squareStores (w .l) u (w .d) (w .x)))
 
 abbrev μ-loop : tie.MeasureT-loop
 μ-loop us first from own second guess u₀ t₀ next₀ u t next = length us - t

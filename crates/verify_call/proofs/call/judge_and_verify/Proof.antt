@@ -29,23 +29,23 @@ chain-rows-from-verify-steps c = clear-chains-from-verify-steps c .before .befor
 abbrev lengths-fit-else-from-verify-steps : tie.After-verify-steps → tie.Else2
 lengths-fit-else-from-verify-steps c = chain-rows-from-verify-steps c .before .before .before
 
-abbrev pattern-fault-else-from-making-t27 : tie.After-known-told → tie.Else1
-pattern-fault-else-from-making-t27 c =
+abbrev pattern-fault-else-from-making-l-last : tie.After-known-told → tie.Else1
+pattern-fault-else-from-making-l-last c =
     lengths-fit-else-from-verify-steps (c .before .before .before .before .before .before .before .before .before .before .before .before .before) .before
     .before
 
 abbrev verify-steps-from-end3 : tie.After-enum-told → tie.After-verify-steps
 verify-steps-from-end3 c = c .before .before .before .before .before .before .before .before .before .before .before .before
 
-abbrev lengths-fit-else-from-reading-t28 : tie.After-shared-slice-known9 → tie.Else2
-lengths-fit-else-from-reading-t28 c =
+abbrev lengths-fit-else-from-reading-l-last : tie.After-shared-slice-known9 → tie.Else2
+lengths-fit-else-from-reading-l-last c =
     lengths-fit-else-from-verify-steps (c .before .before .before .before .before .before .before .before .before .before .before .before .before .before)
 
-abbrev pattern-fault-else-from-reading-t28 : tie.After-shared-slice-known9 → tie.Else1
-pattern-fault-else-from-reading-t28 c = pattern-fault-else-from-making-t27 (c .before)
+abbrev pattern-fault-else-from-reading-l-last : tie.After-shared-slice-known9 → tie.Else1
+pattern-fault-else-from-reading-l-last c = pattern-fault-else-from-making-l-last (c .before)
 
 abbrev lengths-fit-else-from-calling-same-counts : tie.After-shared-slice-known10 → tie.Else2
-lengths-fit-else-from-calling-same-counts c = lengths-fit-else-from-reading-t28 (c .before)
+lengths-fit-else-from-calling-same-counts c = lengths-fit-else-from-reading-l-last (c .before)
 
 abbrev verify-steps-from-same-counts-then : tie.Then3 → tie.After-verify-steps
 verify-steps-from-same-counts-then c =
@@ -59,24 +59,24 @@ pattern-fault-requires : tie.Need-pattern-fault-requires
 pattern-fault-requires c κs = tt
 
 refusal-of-requires : tie.Need-refusal-of-requires
-refusal-of-requires c κs = fault-range _ _ _ _ _ (c .before .pattern-fault .ensures) (c .if1 .taken)
+refusal-of-requires c κs = fault-range _ _ _ _ _ _ (c .before .pattern-fault .ensures) (c .if1 .taken)
 
 returns : tie.Need-returns
 returns c =
     let a = start-from-refusal-of c .args in
-    verify-fault (a .most) (a .n) (a .starts .now) (a .columns .now) (a .counts) (a .l-subs .now) (a .l-starts .now) (a .l-slots .now) (a .u-subs .now)
+    verify-fault (a .most) (a .n) (a .height) (a .starts .now) (a .columns .now) (a .counts) (a .l-subs .now) (a .l-starts .now) (a .l-slots .now) (a .u-subs .now)
     (a .u-starts .now) (a .u-slots .now)
     (a .row-heads .now) (a .row-links .now) (a .set-heads .now) (a .set-links .now) (a .list .now) (a .spare .now)
     _ _ (c .before .before .pattern-fault .ensures) (c .before .if1 .taken) (c .refusal-of .ensures)
 
 lengths-fit-requires : tie.Need-lengths-fit-requires
-lengths-fit-requires c κs = fault-few _ _ _ _ _ (c .before .pattern-fault .ensures) (c .if1 .left)
+lengths-fit-requires c κs = fault-few _ _ _ _ _ _ (c .before .pattern-fault .ensures) (c .if1 .left)
 
 returns-2 : tie.Need-returns-2
 returns-2 c =
     let at-pattern-fault = c .before .before .before in
     let a = start-from-pattern-fault at-pattern-fault .args in
-    verify-sizes (a .most) (a .n) (a .starts .now) (a .columns .now) (a .counts) (a .l-subs .now) (a .l-starts .now) (a .l-slots .now) (a .u-subs .now)
+    verify-sizes (a .most) (a .n) (a .height) (a .starts .now) (a .columns .now) (a .counts) (a .l-subs .now) (a .l-starts .now) (a .l-slots .now) (a .u-subs .now)
     (a .u-starts .now) (a .u-slots .now)
     (a .row-heads .now) (a .row-links .now) (a .set-heads .now) (a .set-links .now) (a .list .now) (a .spare .now)
     _ (at-pattern-fault .pattern-fault .ensures) (c .before .before .if1 .left) _ (c .before .lengths-fit .ensures) (not-true _ (c .if2 .taken))
@@ -87,7 +87,7 @@ chain-rows-requires c κs =
     let at-pattern-fault-else = at-lengths-fit .before in
     let at-pattern-fault = at-pattern-fault-else .before in
     let a = start-from-pattern-fault at-pattern-fault .args in
-    verify-rows-ask (a .most) (a .n) (a .starts .now) (a .columns .now) (a .counts) (a .l-subs .now) (a .l-starts .now) (a .l-slots .now) (a .u-subs .now)
+    verify-rows-ask (a .most) (a .n) (a .height) (a .starts .now) (a .columns .now) (a .counts) (a .l-subs .now) (a .l-starts .now) (a .l-slots .now) (a .u-subs .now)
     (a .u-starts .now) (a .u-slots .now)
     (a .row-heads .now) (a .row-links .now) (a .set-heads .now) (a .set-links .now) (a .list .now) (a .spare .now)
     _ (at-pattern-fault .pattern-fault .ensures) (at-pattern-fault-else .if1 .left) _ (at-lengths-fit .lengths-fit .ensures)
@@ -105,7 +105,7 @@ verify-steps-requires c κs =
     let at-pattern-fault-else = at-lengths-fit .before in
     let at-pattern-fault = at-pattern-fault-else .before in
     let a = start-from-pattern-fault at-pattern-fault .args in
-    verify-steps-ask (a .most) (a .n) (a .starts .now) (a .columns .now) (a .counts) (a .l-subs .now) (a .l-starts .now) (a .l-slots .now) (a .u-subs .now)
+    verify-steps-ask (a .most) (a .n) (a .height) (a .starts .now) (a .columns .now) (a .counts) (a .l-subs .now) (a .l-starts .now) (a .l-slots .now) (a .u-subs .now)
     (a .u-starts .now) (a .u-slots .now)
     (a .row-heads .now) (a .row-links .now) (a .set-heads .now) (a .set-links .now) (a .list .now) (a .spare .now)
     _ (at-pattern-fault .pattern-fault .ensures) (at-pattern-fault-else .if1 .left) _ (at-lengths-fit .lengths-fit .ensures)
@@ -149,43 +149,43 @@ returns-3 c =
     let at-pattern-fault-else = at-lengths-fit .before in
     let at-pattern-fault = at-pattern-fault-else .before in
     let a = start-from-pattern-fault at-pattern-fault .args in
-    verify-differs (a .most) (a .n) (a .starts .now) (a .columns .now) (a .counts) (a .l-subs .now) (a .l-starts .now) (a .l-slots .now) (a .u-subs .now)
+    verify-differs (a .most) (a .n) (a .height) (a .starts .now) (a .columns .now) (a .counts) (a .l-subs .now) (a .l-starts .now) (a .l-slots .now) (a .u-subs .now)
     (a .u-starts .now) (a .u-slots .now)
     (a .row-heads .now) (a .row-links .now) (a .set-heads .now) (a .set-links .now) (a .list .now) (a .spare .now)
     _ (at-pattern-fault .pattern-fault .ensures) (at-pattern-fault-else .if1 .left) _ (at-lengths-fit .lengths-fit .ensures)
     (not-false _ (at-lengths-fit-else .if2 .left)) (rw (c .enum-told .given .1) at (at-verify-steps .verify-steps .ensures))
 
-mul-t27 : tie.Need-mul-t27
-mul-t27 c =
-    let at-pattern-fault-else = pattern-fault-else-from-making-t27 c in
-    fault-place _ _ _ _ _ (at-pattern-fault-else .before .pattern-fault .ensures) (at-pattern-fault-else .if1 .left)
+mul-l-last : tie.Need-mul-l-last
+mul-l-last c =
+    let at-pattern-fault-else = pattern-fault-else-from-making-l-last c in
+    fault-place _ _ _ _ _ _ (at-pattern-fault-else .before .pattern-fault .ensures) (at-pattern-fault-else .if1 .left)
 
-shared-slice-read-t28 : tie.Need-shared-slice-read-t28
-shared-slice-read-t28 c =
-    let at-lengths-fit-else = lengths-fit-else-from-reading-t28 c in
+shared-slice-read-l-last : tie.Need-shared-slice-read-l-last
+shared-slice-read-l-last c =
+    let at-lengths-fit-else = lengths-fit-else-from-reading-l-last c in
     let at-lengths-fit = at-lengths-fit-else .before in
     let at-pattern-fault-else = at-lengths-fit .before in
     let at-pattern-fault = at-pattern-fault-else .before in
     let a = start-from-pattern-fault at-pattern-fault .args in
-    verify-places (a .most) (a .n) (a .starts .now) (a .columns .now) (a .counts) (a .l-subs .now) (a .l-starts .now) (a .l-slots .now) (a .u-subs .now)
+    verify-places (a .most) (a .n) (a .height) (a .starts .now) (a .columns .now) (a .counts) (a .l-subs .now) (a .l-starts .now) (a .l-slots .now) (a .u-subs .now)
     (a .u-starts .now) (a .u-slots .now)
     (a .row-heads .now) (a .row-links .now) (a .set-heads .now) (a .set-links .now) (a .list .now) (a .spare .now)
     _ (at-pattern-fault .pattern-fault .ensures) (at-pattern-fault-else .if1 .left) _ (at-lengths-fit .lengths-fit .ensures)
     (not-false _ (at-lengths-fit-else .if2 .left)) .0
 
-mul-t29 : tie.Need-mul-t29
-mul-t29 c =
-    let at-pattern-fault-else = pattern-fault-else-from-reading-t28 c in
-    fault-place _ _ _ _ _ (at-pattern-fault-else .before .pattern-fault .ensures) (at-pattern-fault-else .if1 .left)
+mul-u-last : tie.Need-mul-u-last
+mul-u-last c =
+    let at-pattern-fault-else = pattern-fault-else-from-reading-l-last c in
+    fault-place _ _ _ _ _ _ (at-pattern-fault-else .before .pattern-fault .ensures) (at-pattern-fault-else .if1 .left)
 
-shared-slice-read-t30 : tie.Need-shared-slice-read-t30
-shared-slice-read-t30 c =
+shared-slice-read-u-last : tie.Need-shared-slice-read-u-last
+shared-slice-read-u-last c =
     let at-lengths-fit-else = lengths-fit-else-from-calling-same-counts c in
     let at-lengths-fit = at-lengths-fit-else .before in
     let at-pattern-fault-else = at-lengths-fit .before in
     let at-pattern-fault = at-pattern-fault-else .before in
     let a = start-from-pattern-fault at-pattern-fault .args in
-    verify-places (a .most) (a .n) (a .starts .now) (a .columns .now) (a .counts) (a .l-subs .now) (a .l-starts .now) (a .l-slots .now) (a .u-subs .now)
+    verify-places (a .most) (a .n) (a .height) (a .starts .now) (a .columns .now) (a .counts) (a .l-subs .now) (a .l-starts .now) (a .l-slots .now) (a .u-subs .now)
     (a .u-starts .now) (a .u-slots .now)
     (a .row-heads .now) (a .row-links .now) (a .set-heads .now) (a .set-links .now) (a .list .now) (a .spare .now)
     _ (at-pattern-fault .pattern-fault .ensures) (at-pattern-fault-else .if1 .left) _ (at-lengths-fit .lengths-fit .ensures)
@@ -227,7 +227,7 @@ returns-4 c =
     let at-pattern-fault-else = at-lengths-fit .before in
     let at-pattern-fault = at-pattern-fault-else .before in
     let a = start-from-pattern-fault at-pattern-fault .args in
-    verify-miscounts (a .most) (a .n) (a .starts .now) (a .columns .now) (a .counts) (a .l-subs .now) (a .l-starts .now) (a .l-slots .now) (a .u-subs .now)
+    verify-miscounts (a .most) (a .n) (a .height) (a .starts .now) (a .columns .now) (a .counts) (a .l-subs .now) (a .l-starts .now) (a .l-slots .now) (a .u-subs .now)
     (a .u-starts .now) (a .u-slots .now)
     (a .row-heads .now) (a .row-links .now) (a .set-heads .now) (a .set-links .now) (a .list .now) (a .spare .now)
     _ (at-pattern-fault .pattern-fault .ensures) (at-pattern-fault-else .if1 .left) _ (at-lengths-fit .lengths-fit .ensures)
@@ -267,7 +267,7 @@ returns-5 c =
     let at-pattern-fault-else = at-lengths-fit .before in
     let at-pattern-fault = at-pattern-fault-else .before in
     let a = start-from-pattern-fault at-pattern-fault .args in
-    verify-agrees (a .most) (a .n) (a .starts .now) (a .columns .now) (a .counts) (a .l-subs .now) (a .l-starts .now) (a .l-slots .now) (a .u-subs .now)
+    verify-agrees (a .most) (a .n) (a .height) (a .starts .now) (a .columns .now) (a .counts) (a .l-subs .now) (a .l-starts .now) (a .l-slots .now) (a .u-subs .now)
     (a .u-starts .now) (a .u-slots .now)
     (a .row-heads .now) (a .row-links .now) (a .set-heads .now) (a .set-links .now) (a .list .now) (a .spare .now)
     _ (at-pattern-fault .pattern-fault .ensures) (at-pattern-fault-else .if1 .left) _ (at-lengths-fit .lengths-fit .ensures)
@@ -295,10 +295,10 @@ judge-and-verify-spec =
     same-length-5
     same-length-6
     returns-3
-    mul-t27
-    shared-slice-read-t28
-    mul-t29
-    shared-slice-read-t30
+    mul-l-last
+    shared-slice-read-l-last
+    mul-u-last
+    shared-slice-read-u-last
     same-counts-requires
     same-length-7
     same-length-8

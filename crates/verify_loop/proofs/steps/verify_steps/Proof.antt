@@ -5,6 +5,7 @@ use Prim.Native.Nat.{_+_, _-_}
 use native.Mathlib.Omega.{arith}
 use Rattle.foundation.specs.Pattern.{lent}
 use Rattle.answers.specs.Stores.{planStores}
+use Rattle.plan_gather.specs.Ready.{lentBy}
 use Rattle.plan_gather.specs.Steps.{chainStores}
 use Rattle.verify_loop.proofs.Progress.{VerifyUnderway, verify-start, first-lower, first-upper, verify-differs-later, verify-step-asks, verify-turn}
 use Rattle.verify_loop.proofs.Progress.{verify-end}
@@ -14,7 +15,7 @@ use Rattle.verify_loop.proofs.steps.verify_steps.Tie as tie
 abbrev Inv-loop : tie.InvT-loop
 Inv-loop n starts columns row-heads₀ row-links set-heads₀ set-links₀ l-subs l-starts l-slots u-subs u-starts u-slots list₀ spare₀ l-end₀ u-end₀ reads₀ k₀
     row-heads set-heads set-links list spare l-end u-end reads k =
-    VerifyUnderway (lent n starts columns) n k (chainStores row-heads row-links set-heads set-links) (planStores l-subs l-starts l-slots u-subs u-starts
+    VerifyUnderway (lentBy n starts columns) n k (chainStores row-heads row-links set-heads set-links) (planStores l-subs l-starts l-slots u-subs u-starts
     u-slots) list spare (l-end .0) (u-end .0) reads
 
 abbrev μ-loop : tie.MeasureT-loop
@@ -64,7 +65,7 @@ returns-2 : tie.Need-returns-2 Inv-loop μ-loop
 returns-2 c = first-upper (c .if2 .taken)
 
 loop-holds : tie.Need-loop-holds Inv-loop μ-loop
-unfolding lent
+unfolding lentBy lent
 loop-holds c =
     let start = start-from-else-else c in
     verify-start refl refl (start .pre .0) (start .pre .1) (c .before .before .if1 .left) (c .if2 .left)

@@ -6,8 +6,9 @@ use native.Mathlib.Omega.{arith}
 use borrow.Author.Needs.{scaled-fits}
 use borrow.Author.Tests.{not-true, not-false}
 use Rattle.lists.proofs.Small.{before-fits, before-below, still-inside, part-fits}
-use Rattle.foundation.specs.Pattern.{lent, patternOf}
+use Rattle.foundation.specs.Pattern.{patternOf}
 use Rattle.foundation.specs.Plan.{upper, brings}
+use Rattle.plan_gather.specs.Ready.{lentBy}
 use Rattle.plan_gather.specs.Gathering.{without}
 use Rattle.plan_share.proofs.Adding.{rest-writable, new-grown}
 use Rattle.plan_lists.proofs.Whole.{whole-sole, whole-behind, whole-row, whole-grown, grown-not-sole}
@@ -146,7 +147,7 @@ row-start c = c .before .before .before .before .before .before .before .before
 read :
     (c : tie.After-enum-told)
     → ColumnsRead (row-start c .args .starts .now) (row-start c .args .columns .now) (row-start c .args .row) (getD (row-start c .args .starts .now) (row-start c .args .row - 1) 0)
-    (brings (patternOf (lent (row-start c .args .n) (row-start c .args .starts .now) (row-start c .args .columns .now))) upper (row-start c .args .row))
+    (brings (patternOf (lentBy (row-start c .args .n) (row-start c .args .starts .now) (row-start c .args .columns .now))) upper (row-start c .args .row))
 read c =
     let (at, whole) = row-start c .pre in
     columns-all _ _ _ (at .step) (whole-row whole (c .enum-told .given .1))
