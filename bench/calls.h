@@ -10,7 +10,7 @@
 #define WRITE(name) size_t *name, size_t name##_length
 #define READ_NUMBERS(name) const double *name, size_t name##_length
 #define WRITE_NUMBERS(name) double *name, size_t name##_length
-#define PATTERN size_t most, size_t n, READ(starts), READ(columns)
+#define PATTERN size_t most, size_t n, size_t height, READ(starts), READ(columns)
 #define LENT_PLAN READ(counts), READ(l_subs), READ(l_starts), READ(l_slots), READ(u_subs), READ(u_starts), READ(u_slots)
 #define WORK WRITE(row_heads), WRITE(row_links), WRITE(set_heads), WRITE(set_links), WRITE(list), WRITE(spare)
 

@@ -8,7 +8,8 @@
 
 #define MOST 1024
 #define LEND(store) o->store.at, o->store.length
-#define LEND_PATTERN MOST, o->pattern->n, o->pattern->starts, o->pattern->n + 1, o->pattern->columns, o->pattern->entries
+/* squares: as many rows as columns */
+#define LEND_PATTERN MOST, o->pattern->n, o->pattern->n, o->pattern->starts, o->pattern->n + 1, o->pattern->columns, o->pattern->entries
 #define LEND_PLAN LEND(l_subs), LEND(l_starts), LEND(l_slots), LEND(u_subs), LEND(u_starts), LEND(u_slots)
 #define LEND_WORK LEND(row_heads), LEND(row_links), LEND(set_heads), LEND(set_links), LEND(list), LEND(spare)
 

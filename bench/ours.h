@@ -12,7 +12,7 @@ struct numbers {
     size_t length;
 };
 
-enum { N, ENTRIES, L_SUBSCRIPTS, U_SUBSCRIPTS, L_SLOTS, U_SLOTS, READS, COUNTS };
+enum { N, HEIGHT, ENTRIES, L_SUBSCRIPTS, U_SUBSCRIPTS, L_SLOTS, U_SLOTS, READS, COUNTS };
 
 struct ours {
     const struct pattern *pattern;

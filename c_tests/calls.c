@@ -104,7 +104,7 @@ static dlm_answer run_one_field(double value, double right)
     dlm_system system = dlm_system_of(&value, 1, &right, 1);
     size_t numbers[14] = {0};
     double reals[5] = {0};
-    dlm_plan own_plan = {{0, 0, 0, 0, 0, 0, 0}, {NULL, 0}, {numbers, 1}, {numbers + 1, 2}, {NULL, 0}, {numbers + 3, 1}, {numbers + 4, 2}};
+    dlm_plan own_plan = {{0, 0, 0, 0, 0, 0, 0, 0}, {NULL, 0}, {numbers, 1}, {numbers + 1, 2}, {NULL, 0}, {numbers + 3, 1}, {numbers + 4, 2}};
     dlm_work own_work = {{numbers + 6, 2}, {numbers + 8, 2}, {NULL, 0}, {NULL, 0}, {NULL, 0}, {NULL, 0}, {reals, 1}, {reals + 1, 2}};
     dlm_factor own_factor = {{NULL, 0}, {NULL, 0}, {reals + 3, 1}, {reals + 4, 1}, {numbers + 10, 1}, 0};
     size_t more[6];
@@ -297,11 +297,13 @@ static void test_sentences(void)
 {
     size_t number;
     for (number = 0; number <= 40; number++)
-        expect((strcmp(dlm_sentence(number), dlm_sentence(SIZE_MAX)) != 0) == (number <= 19 || number == 23 || (number >= 27 && number <= 29)),
+        expect((strcmp(dlm_sentence(number), dlm_sentence(SIZE_MAX)) != 0) == (number <= 19 || number == 23 || (number >= 25 && number <= 29)),
                "every refusal has a sentence, and no other number");
-    expect(strcmp(dlm_sentence(DLM_DIAGONAL), "a row lacks its diagonal") == 0, "the sentence of 5");
+    expect(strcmp(dlm_sentence(DLM_DIAGONAL), "one of the first n rows lacks its diagonal") == 0, "the sentence of 5");
     expect(strcmp(dlm_sentence(DLM_NO_PIVOT), "no row from the step on, or not the listed row, has an entry of magnitude at least 2^-1022 in the "
                                               "step's column") == 0, "the sentence of 13");
+    expect(strcmp(dlm_sentence(DLM_HEIGHT), "the rows are fewer than n or more than 2,048") == 0, "the sentence of 25");
+    expect(strcmp(dlm_sentence(DLM_TALL), "a system with more rows than n is to be solved: it can be run only when cut") == 0, "the sentence of 26");
     expect(strcmp(dlm_sentence(SIZE_MAX), "no refusal has this number") == 0, "other numbers have none");
 }
 
@@ -314,25 +316,25 @@ static void test_answer_stores(void)
     size_t length;
     size_t number;
     for (length = 0; length <= 12; length++) {
-        static const size_t full[12] = {0, 0, 4, 9, 2, 2, 3, 4, 31, 0, 0, 0};
+        static const size_t full[12] = {0, 0, 4, 4, 9, 2, 2, 3, 4, 31, 0, 0};
         memset(answer, 1, sizeof answer);
-        number = dalumiveth_plan(4, 4, starts, 5, columns, 9, DLM_PLAN(&plan), DLM_WORK(&work), answer, length);
+        number = dalumiveth_plan(4, 4, 4, starts, 5, columns, 9, DLM_PLAN(&plan), DLM_WORK(&work), answer, length);
         expect(number == 0 && memcmp(answer, full, length * sizeof *answer) == 0, "an answer as long as its store");
         expect(length == 12 || answer[length] != 0, "and not longer");
     }
-    number = dalumiveth_plan(3, 4, starts, 5, columns, 9, DLM_PLAN(&plan), DLM_WORK(&work), answer, 9);
+    number = dalumiveth_plan(3, 4, 4, starts, 5, columns, 9, DLM_PLAN(&plan), DLM_WORK(&work), answer, 10);
     expect(number == 1 && answer[0] == 1 && answer[2] == 0, "n above `most` is 1");
-    number = dalumiveth_plan(SIZE_MAX, 4, starts, 5, columns, 9, DLM_PLAN(&plan), DLM_WORK(&work), answer, 9);
-    expect(number == 0 && answer[8] == 31, "`most` above 1,024 is 1,024");
+    number = dalumiveth_plan(SIZE_MAX, 4, 4, starts, 5, columns, 9, DLM_PLAN(&plan), DLM_WORK(&work), answer, 10);
+    expect(number == 0 && answer[9] == 31, "`most` above 1,024 is 1,024");
 }
 
 static void test_counts(void)
 {
-    static const size_t counts[9] = {4, 9, 2, 2, 3, 4, 31, 5, 5};
+    static const size_t counts[10] = {4, 4, 9, 2, 2, 3, 4, 31, 5, 5};
     size_t answer[2];
-    expect(dalumiveth_verify(4, 4, starts, 5, columns, 9, counts, 9, DLM_PLAN(&plan), DLM_WORK(&work), answer, 2) == 0,
+    expect(dalumiveth_verify(4, 4, 4, starts, 5, columns, 9, counts, 10, DLM_PLAN(&plan), DLM_WORK(&work), answer, 2) == 0,
            "further counts are not read");
-    expect(dalumiveth_verify(4, 4, starts, 5, columns, 9, counts, 6, DLM_PLAN(&plan), DLM_WORK(&work), answer, 2) == 9,
+    expect(dalumiveth_verify(4, 4, 4, starts, 5, columns, 9, counts, 7, DLM_PLAN(&plan), DLM_WORK(&work), answer, 2) == 9,
            "a missing count is 0");
 }
 

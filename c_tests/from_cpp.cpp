@@ -1,4 +1,5 @@
-// The header in C++, with stores of the caller's own: the four fields of document 01, an offset written and read, a test load planned and run.
+// The header in C++, with stores of the caller's own: the four fields of document 01, a tall system, an offset written and read, a test load planned
+// and run.
 #include "dalumiveth.h"
 
 #include <algorithm>
@@ -88,6 +89,28 @@ bool load_is_run(uint32_t seed, size_t n, size_t d)
     return good && dlm_run_largest(&pattern, &plan, &system, dlm_whole(), &factor, &work).refusal == DLM_NONE;
 }
 
+// One field seen by three observers, the last of whom saw nothing: cut to its one step, and 26 where it is to be solved.
+bool tall_system_is_cut()
+{
+    const size_t starts[] = {0, 1, 2, 2};
+    const size_t columns[] = {1, 1};
+    const double values[] = {1, 4};
+    const double right_side[] = {2, 12, 5};
+    const dlm_pattern pattern = dlm_tall_pattern_of(1, 3, starts, columns, 2);
+    const dlm_system system = dlm_system_of(values, 2, right_side, 3);
+    const dlm_sizes sizes = dlm_tall_sizes_for(1, 3, 2, nullptr);
+    Stores stores;
+    dlm_plan plan = plan_stores(stores, sizes);
+    dlm_work work = work_stores(stores, sizes);
+    dlm_factor factor = factor_stores(stores, sizes);
+    bool good = dlm_make_plan(&pattern, &plan, &work).refusal == DLM_NONE && plan.counts.height == 3;
+    good = good && dlm_run_largest(&pattern, &plan, &system, dlm_cut(1), &factor, &work).refusal == DLM_NONE && factor.pivots.at[0] == 2;
+    good = good && factor.x.at[0] / factor.d.at[0] == 3 && factor.x.at[1] == -1 && factor.x.at[2] == 5;
+    good = good && dlm_run_largest(&pattern, &plan, &system, dlm_whole(), &factor, &work).refusal == DLM_TALL && factor.x.at[2] == 0;
+    const dlm_pattern flat = dlm_tall_pattern_of(2, 1, starts, columns, 1);
+    return good && dlm_make_plan(&flat, &plan, &work).refusal == DLM_HEIGHT && plan.counts.height == 0;
+}
+
 } // namespace
 
 int main()
@@ -112,8 +135,9 @@ int main()
     dlm_tally tally = {{0}};
     good = good && dlm_tally_add(&tally, 16, factor.updates).refusal == DLM_NONE && tally.counters[15] == 3 && tally.counters[0] == 0;
     good = good && dlm_tally_add(&tally, 17, 1).refusal == DLM_NO_MEMBER && dlm_tally_add(&tally, 16, UINT32_MAX).refusal == DLM_TALLY_FULL;
+    good = good && tall_system_is_cut();
     good = good && offset_returns(-45296789, "-012 34 56.789") && dlm_read_offset("+360 00 00.000", DLM_OFFSET_BYTES).refusal == DLM_OFFSET_TEXT;
     good = good && load_is_run(UINT32_MAX, 30, 5);
-    std::printf("%s\n", good ? "the four fields, an offset and a test load from C++: right" : "the four fields, an offset and a test load from C++: wrong");
+    std::printf("the four fields, a tall system, an offset and a test load from C++: %s\n", good ? "right" : "wrong");
     return good ? 0 : 1;
 }

@@ -17,6 +17,9 @@ program from_fortran
   call test_plan()
   call test_runs()
   call test_refused_plans()
+  call test_tall_plan()
+  call test_tall_runs()
+  call test_row_counts()
   call test_end_of_the_store()
   call test_least_pivot()
   call test_tally()
@@ -53,9 +56,10 @@ contains
     call expect(all(plan%l_subs == [3, 4]) .and. all(plan%l_starts == [0, 1, 1, 2]), "M2: the L store")
     call expect(all(plan%u_subs == [3, 4]) .and. all(plan%u_starts == [0, 0, 1, 2]), "M2: the U store")
     call expect(is(dlm_verify_plan(pattern, plan, work), 0, 0), "the plan is the pattern's")
-    plan%counts(7) = 30
+    call expect(all(plan%counts == [4, 4, 9, 2, 2, 3, 4, 31]), "its eight counts")
+    plan%counts(8) = 30
     call expect(is(dlm_verify_plan(pattern, plan, work), 9, 0), "a plan with another count is not")
-    plan%counts(7) = 31
+    plan%counts(8) = 31
   end subroutine
 
   subroutine test_runs()
@@ -88,6 +92,80 @@ contains
     call expect(is(dlm_run_largest(pattern, none, values, right_side, factor, work), 6, 0), "stores for another n are 6")
   end subroutine
 
+  ! Document 02, ticket 9: three fields in six rows, {1,3}, {2}, {3}, {1,2}, {} and {2,3}.
+  function six_rows() result(tall)
+    type(dlm_pattern) :: tall
+    tall%n = 3
+    tall%height = 6
+    tall%starts = [integer(dlm_size) :: 0, 2, 3, 4, 6, 6, 8]
+    tall%columns = [integer(dlm_size) :: 1, 3, 2, 3, 1, 2, 2, 3]
+  end function
+
+  subroutine test_tall_plan()
+    type(dlm_plan) :: own_plan
+    call expect(is(dlm_make_plan(six_rows(), own_plan, work), 0, 0), "six rows of three columns are planned")
+    call expect(all(own_plan%counts == [3, 6, 8, 2, 2, 5, 3, 26]), "with the row count behind n")
+    call expect(all(own_plan%l_subs == [4, 6]) .and. all(own_plan%l_starts == [0, 0, 0]), "rows above n in the L store")
+    call expect(all(own_plan%u_subs == [2, 3]) .and. all(own_plan%u_starts == [0, 1, 2]), "and columns in the U store")
+    call expect(is(dlm_verify_plan(six_rows(), own_plan, work), 0, 0), "that plan is the pattern's")
+    own_plan%counts(2) = 5
+    call expect(is(dlm_verify_plan(six_rows(), own_plan, work), 9, 0), "one with another row count is not")
+  end subroutine
+
+  ! Cut to n steps the first rows are triangular, and what is left of the right side below them is the misfit; whole it is 26.
+  subroutine test_tall_runs()
+    real(dlm_real), parameter :: own_values(8) = [1.0, 1.5, 1.0, 1.0, 2.0, 2.0, 4.0, 2.0], own_right(6) = [3, 2, 1, 8, 7, 10]
+    type(dlm_plan) :: own_plan
+    type(dlm_answer) :: answer
+    call expect(is(dlm_make_plan(six_rows(), own_plan, work), 0, 0), "the six rows once more")
+    answer = dlm_run_largest(six_rows(), own_plan, own_values, own_right, factor, work, steps=3_dlm_size)
+    call expect(is(answer, 0, 0) .and. all(factor%pivots == [4, 6, 4]) .and. factor%updates == 3, "pivot rows above n")
+    call expect(all(factor%d == [2, 4, 2]) .and. all(factor%u == [2, 0, 2]), "the triangle")
+    call expect(all(factor%l == [0.5, -0.25, 0.25, 0.5, -0.25]), "the multipliers")
+    call expect(all(factor%x == [8.0, 10.0, 1.5, 0.25, 7.0, -0.125]), "the right side of every row")
+    answer = dlm_run_listed(six_rows(), own_plan, own_values, own_right, [integer(dlm_size) :: 4, 6, 6], factor, work, &
+        steps=3_dlm_size)
+    call expect(is(answer, 0, 0) .and. all(factor%pivots == [4, 6, 6]), "a list up to the row count")
+    answer = dlm_run_listed(six_rows(), own_plan, own_values, own_right, [integer(dlm_size) :: 4, 6, 7], factor, work, &
+        steps=3_dlm_size)
+    call expect(is(answer, 12, 0), "a row above it is 12")
+    answer = dlm_run_largest(six_rows(), own_plan, own_values, own_right, factor, work, steps=4_dlm_size)
+    call expect(is(answer, 12, 0), "more steps than columns are 12")
+    answer = dlm_run_largest(six_rows(), own_plan, own_values, own_right(1:3), factor, work, steps=3_dlm_size)
+    call expect(is(answer, 10, 0), "a right side of n rows is 10")
+    own_plan%counts = 0
+    answer = dlm_run_largest(six_rows(), own_plan, own_values, own_right, factor, work)
+    call expect(is(answer, 26, 0) .and. all(factor%x == 0), "solving is 26, before 9")
+    call expect(dlm_sentence(26_dlm_size) /= dlm_sentence(24_dlm_size), "26 has a sentence")
+  end subroutine
+
+  ! n to 2,048 rows; a square need not name its row count.
+  subroutine test_row_counts()
+    integer(dlm_size), parameter :: others(5) = [integer(dlm_size) :: 0, 2, -2, 2049, huge(0_dlm_size)]
+    type(dlm_pattern) :: tall
+    type(dlm_plan) :: own_plan
+    integer :: which
+    do which = 1, size(others)
+      tall = six_rows()
+      tall%height = others(which)
+      call expect(is(dlm_make_plan(tall, own_plan, work), 25, 0) .and. all(own_plan%counts == 0), "another row count is 25")
+      call expect(is(dlm_verify_plan(tall, own_plan, work), 25, 0), "in verifying too")
+      tall%n = 1025
+      call expect(is(dlm_make_plan(tall, own_plan, work), 1, 0), "1 before 25")
+    end do
+    tall = six_rows()
+    deallocate(tall%starts)
+    allocate(tall%starts(2049))
+    tall%starts = 8
+    tall%starts(1:6) = [0, 2, 3, 4, 6, 6]
+    tall%height = 2048
+    call expect(is(dlm_make_plan(tall, own_plan, work), 0, 0) .and. own_plan%counts(2) == 2048, "2,048 rows are planned")
+    tall = pattern
+    tall%height = 4
+    call expect(is(dlm_make_plan(tall, own_plan, work), 0, 0) .and. all(own_plan%counts == plan%counts), "a square that names it")
+    call expect(dlm_sentence(25_dlm_size) /= dlm_sentence(24_dlm_size), "25 has a sentence")
+  end subroutine
+
   ! Document 02, ticket 5, on rows {1}, {2}, {3}, {1,3,4}: the lists of step 3 stand at the stores' ends, put there by step 1. A plan that lays them anew, as by
   ! the rule before, is 9.
   subroutine test_end_of_the_store()
@@ -105,7 +183,7 @@ contains
     own_plan%l_starts = [integer(dlm_size) :: 0, 1, 1, 2]
     own_plan%u_subs = [integer(dlm_size) :: 3, 4, 4]
     own_plan%u_starts = [integer(dlm_size) :: 0, 2, 2, 3]
-    own_plan%counts(3:4) = [2, 3]
+    own_plan%counts(4:5) = [2, 3]
     call expect(is(dlm_verify_plan(own, own_plan, own_work), 9, 0), "a plan by the rule before is 9")
   end subroutine
 

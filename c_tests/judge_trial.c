@@ -1,4 +1,4 @@
-/* What document 01 says that a trial's calls answer, and whether the stores are what they must be afterwards. */
+/* What documents 01 and 02 say that a trial's calls answer, and whether the stores are what they must be afterwards. */
 #include "trial.h"
 
 #include <math.h>
@@ -11,9 +11,10 @@ static int plan_lengths_are_right(const trial *t)
     const dlm_plan *plan = &t->plan;
     const dlm_work *work = &t->work;
     size_t n = t->n;
+    size_t height = t->height;
     return plan->l_starts.length == n && plan->u_starts.length == n && plan->l_slots.length == n + 1 && plan->u_slots.length == n + 1 &&
-           work->row_heads.length == n + 1 && work->row_links.length == n + 1 && work->set_heads.length == n + 1 &&
-           work->set_links.length == n + 1 && work->list.length == n && work->spare.length == n;
+           work->row_heads.length == height + 1 && work->row_links.length == height + 1 && work->set_heads.length == height + 1 &&
+           work->set_links.length == height + 1 && work->list.length == height && work->spare.length == height;
 }
 
 dlm_answer expected_of_plan(const trial *t, plain_plan *plain)
@@ -46,9 +47,9 @@ static int side_agrees(const plain_side *side, size_t n, dlm_numbers subs, dlm_n
 static int counts_agree(const dlm_counts *counts, const plain_plan *plain)
 {
     size_t n = plain->n;
-    return counts->n == n && counts->entries == plain->entries && counts->l_subscripts == plain->l.end[n] &&
-           counts->u_subscripts == plain->u.end[n] && counts->l_slots == plain->l.slots[n] && counts->u_slots == plain->u.slots[n] &&
-           counts->reads == plain->reads;
+    return counts->n == n && counts->height == plain->height && counts->entries == plain->entries &&
+           counts->l_subscripts == plain->l.end[n] && counts->u_subscripts == plain->u.end[n] && counts->l_slots == plain->l.slots[n] &&
+           counts->u_slots == plain->u.slots[n] && counts->reads == plain->reads;
 }
 
 static int plan_agrees(const dlm_plan *plan, const plain_plan *plain)
@@ -71,8 +72,9 @@ dlm_answer expected_of_verify(const trial *t, const plain_plan *plain)
 static int lending_is_right(const trial *t, const plain_plan *plain)
 {
     size_t n = t->n;
-    return t->values.length == t->columns.length && t->right.length == n && t->factor.x.length == n && t->factor.pivots.length == n &&
-           t->factor.d.length == n && t->factor.l.length >= plain->l.slots[n] && t->factor.u.length >= plain->u.slots[n];
+    return t->values.length == t->columns.length && t->right.length == t->height && t->factor.x.length == t->height &&
+           t->factor.pivots.length == n && t->factor.d.length == n && t->factor.l.length >= plain->l.slots[n] &&
+           t->factor.u.length >= plain->u.slots[n];
 }
 
 static int all_finite(dlm_reals store)
@@ -94,7 +96,7 @@ static int rows_are_right(const trial *t)
     if (t->rows.length != t->n)
         return 0;
     for (k = 1; k <= t->n; k++)
-        if (t->rows.at[k - 1] < k || t->rows.at[k - 1] > t->n)
+        if (t->rows.at[k - 1] < k || t->rows.at[k - 1] > t->height)
             return 0;
     return 1;
 }
@@ -106,8 +108,10 @@ dlm_answer expected_of_run(const trial *t, const plain_plan *plain, plain_run *r
     dlm_answer answer = expected_of_verify(t, plain);
     if (answer.refusal != DLM_NONE && answer.refusal != DLM_OTHER_PLAN)
         return answer;
-    if (t->work.copy.length != t->n || t->work.dense.length != t->n + 1)
+    if (t->work.copy.length != t->height || t->work.dense.length != t->height + 1)
         return plain_answer(6, 0);
+    if (t->extent.cut == 0 && t->height > t->n)
+        return plain_answer(26, 0);
     if (answer.refusal != DLM_NONE)
         return answer;
     if (!lending_is_right(t, plain))
@@ -125,10 +129,10 @@ dlm_answer expected_of_run(const trial *t, const plain_plan *plain, plain_run *r
 static int plan_is_zero(const dlm_plan *plan)
 {
     const dlm_counts *counts = &plan->counts;
-    return counts->n == 0 && counts->entries == 0 && counts->l_subscripts == 0 && counts->u_subscripts == 0 && counts->l_slots == 0 &&
-           counts->u_slots == 0 && counts->reads == 0 && numbers_are_zero(plan->l_subs, 0) && numbers_are_zero(plan->l_starts, 0) &&
-           numbers_are_zero(plan->l_slots, 0) && numbers_are_zero(plan->u_subs, 0) && numbers_are_zero(plan->u_starts, 0) &&
-           numbers_are_zero(plan->u_slots, 0);
+    return counts->n == 0 && counts->height == 0 && counts->entries == 0 && counts->l_subscripts == 0 && counts->u_subscripts == 0 &&
+           counts->l_slots == 0 && counts->u_slots == 0 && counts->reads == 0 && numbers_are_zero(plan->l_subs, 0) &&
+           numbers_are_zero(plan->l_starts, 0) && numbers_are_zero(plan->l_slots, 0) && numbers_are_zero(plan->u_subs, 0) &&
+           numbers_are_zero(plan->u_starts, 0) && numbers_are_zero(plan->u_slots, 0);
 }
 
 const char *fault_in_plan(const trial *t, dlm_answer answer, const plain_plan *plain)
@@ -158,38 +162,46 @@ static int factor_is_zero(const dlm_factor *factor)
            reals_are_zero(factor->x, 0) && numbers_are_zero(factor->pivots, 0);
 }
 
-/* Slots of a side, step after step: below the diagonal the square is read by columns, above it by rows. */
+/* Slots of a side, step after step: below the diagonal the rectangle is read by columns, above it by rows. */
 static int slots_agree(const plain_side *side, size_t n, int upper, const plain_run *run, dlm_reals slots)
 {
     size_t k;
     size_t i;
     size_t slot = 0;
     for (k = 1; k <= n; k++)
-        for (i = k + 1; i <= n; i++)
+        for (i = k + 1; i <= side->last; i++)
             if (side->has[k][i] &&
-                bits_of_real(slots.at[slot++]) != bits_of_real(upper ? run->square[k][i] : run->square[i][k]))
+                bits_of_real(slots.at[slot++]) != bits_of_real(upper ? run->rectangle[k][i] : run->rectangle[i][k]))
                 return 0;
     return reals_are_zero(slots, slot);
 }
 
-/* Every place as the header finds it; a place without a slot is +0 there, so it must be +0 in the square. */
+/* Every place as the header finds it; a place without a slot is +0 there, so it must be +0 in the rectangle. */
 static int places_agree(const trial *t, const plain_run *run)
 {
     size_t i;
     size_t j;
-    for (i = 1; i <= t->n; i++)
+    for (i = 1; i <= t->height; i++)
         for (j = 1; j <= t->n; j++)
-            if (bits_of_real(dlm_number_at(&t->plan, &t->factor, i, j)) != bits_of_real(run->square[i][j]))
+            if (bits_of_real(dlm_number_at(&t->plan, &t->factor, i, j)) != bits_of_real(run->rectangle[i][j]))
                 return 0;
     return 1;
 }
 
-static int rows_of_run_agree(const trial *t, const plain_run *run)
+static int steps_agree(const trial *t, const plain_run *run)
+{
+    size_t k;
+    for (k = 1; k <= t->n; k++)
+        if (bits_of_real(t->factor.d.at[k - 1]) != bits_of_real(run->rectangle[k][k]) || t->factor.pivots.at[k - 1] != run->pivots[k])
+            return 0;
+    return 1;
+}
+
+static int solution_agrees(const trial *t, const plain_run *run)
 {
     size_t i;
-    for (i = 1; i <= t->n; i++)
-        if (bits_of_real(t->factor.d.at[i - 1]) != bits_of_real(run->square[i][i]) ||
-            bits_of_real(t->factor.x.at[i - 1]) != bits_of_real(run->x[i]) || t->factor.pivots.at[i - 1] != run->pivots[i])
+    for (i = 1; i <= t->height; i++)
+        if (bits_of_real(t->factor.x.at[i - 1]) != bits_of_real(run->x[i]))
             return 0;
     return 1;
 }
@@ -201,10 +213,12 @@ const char *fault_in_run(const trial *t, dlm_answer answer, const plain_plan *pl
     if (t->factor.updates != run->updates)
         return "updates differ from the reference's";
     if (!slots_agree(&plain->l, t->n, 0, run, t->factor.l) || !slots_agree(&plain->u, t->n, 1, run, t->factor.u))
-        return "slots differ from the reference's square";
-    if (!rows_of_run_agree(t, run))
-        return "diagonal, solution or pivot rows differ from the reference's";
+        return "slots differ from the reference's places";
+    if (!steps_agree(t, run))
+        return "diagonal or pivot rows differ from the reference's";
+    if (!solution_agrees(t, run))
+        return "the solution or the right side that is left differs from the reference's";
     if (!places_agree(t, run))
-        return "a place found by dlm_number_at differs from the square's";
+        return "a place found by dlm_number_at differs from the reference's";
     return NULL;
 }

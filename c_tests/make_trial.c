@@ -5,7 +5,7 @@
 
 dlm_pattern trial_pattern(const trial *t)
 {
-    dlm_pattern pattern = dlm_pattern_of(t->n, t->starts.at, t->columns.at, t->columns.length);
+    dlm_pattern pattern = dlm_tall_pattern_of(t->n, t->height, t->starts.at, t->columns.at, t->columns.length);
     pattern.starts_length = t->starts.length;
     return pattern;
 }
@@ -16,6 +16,20 @@ dlm_system trial_system(const trial *t)
 }
 
 /* ------------------------------------------------------------------ making */
+
+size_t draw_tall_height(size_t n)
+{
+    switch (draw(3)) {
+    case 0: return n + 1;
+    case 1: return 2 * n;
+    default: return n + 1 + draw(n);
+    }
+}
+
+size_t draw_height(size_t n)
+{
+    return draw(2) == 0 ? n : draw_tall_height(n);
+}
 
 /* Kinds of numbers; a system has one or two of them. */
 enum { SMALL_WHOLE, POWERS_OF_TWO, ORDINARY, SUBNORMAL, NEAR_OVERFLOW, AROUND_LIMIT, ANY_FINITE, KINDS };
@@ -60,22 +74,54 @@ static double random_zero(void)
     return real_of_bits(draw_bits() << 63);
 }
 
-/* The diagonal and each other place with one chance in `one_in`. */
+/* The diagonal, if the row has one, and each other place with one chance in `one_in`, from `end` on. Returns the new end. */
+static size_t make_row(trial *t, size_t i, size_t one_in, size_t end)
+{
+    size_t j;
+    for (j = 1; j <= t->size; j++)
+        if (i == j || draw(one_in) == 0)
+            t->columns.at[end++] = j;
+    return end;
+}
+
+/* The places of an earlier row once more: a field seen by two observers. */
+static size_t repeat_places(trial *t, size_t i, size_t end)
+{
+    size_t row = 1 + draw(i - 1);
+    size_t place;
+    for (place = t->starts.at[row - 1]; place < t->starts.at[row]; place++)
+        t->columns.at[end++] = t->columns.at[place];
+    return end;
+}
+
+/* A row above n may be empty. */
+static size_t make_row_above(trial *t, size_t i, size_t one_in, size_t end)
+{
+    switch (draw(4)) {
+    case 0: return end;
+    case 1: return repeat_places(t, i, end);
+    default: return make_row(t, i, one_in, end);
+    }
+}
+
 static void make_pattern(trial *t, size_t one_in)
 {
     size_t i;
-    size_t j;
-    resize_numbers(&t->starts, t->size + 1);
-    resize_numbers(&t->columns, t->size * t->size);
+    resize_numbers(&t->starts, t->tall + 1);
+    resize_numbers(&t->columns, t->size * t->tall);
     t->starts.at[0] = 0;
-    for (i = 1; i <= t->size; i++) {
+    for (i = 1; i <= t->tall; i++) {
         size_t end = t->starts.at[i - 1];
-        for (j = 1; j <= t->size; j++)
-            if (i == j || draw(one_in) == 0)
-                t->columns.at[end++] = j;
-        t->starts.at[i] = end;
+        t->starts.at[i] = i <= t->size ? make_row(t, i, one_in, end) : make_row_above(t, i, one_in, end);
     }
-    resize_numbers(&t->columns, t->starts.at[t->size]);
+    resize_numbers(&t->columns, t->starts.at[t->tall]);
+}
+
+/* Any density, but for large rectangles: they would pass 16,384 entries, or leave columns without a pivot. */
+static size_t draw_one_in(const trial *t)
+{
+    size_t least = t->tall > t->size ? t->size * t->tall / (DLM_MOST_ENTRIES / 2) : 0;
+    return 1 + least + draw(t->size < 8 ? 3 : least > 8 ? least : t->size);
 }
 
 static void zero_a_column(trial *t)
@@ -90,8 +136,8 @@ static void zero_a_column(trial *t)
 /* Two rows with the same numbers from a place on cancel exactly where their columns agree. */
 static void repeat_a_row(trial *t)
 {
-    size_t from = t->starts.at[draw(t->size)];
-    size_t to = t->starts.at[draw(t->size)];
+    size_t from = t->starts.at[draw(t->tall)];
+    size_t to = t->starts.at[draw(t->tall)];
     size_t place;
     for (place = 0; place < t->size && from + place < t->values.length && to + place < t->values.length; place++)
         t->values.at[to + place] = t->values.at[from + place];
@@ -102,7 +148,7 @@ static void make_values(trial *t, size_t kind, size_t other)
     int no_right_side = draw(8) == 0; /* zeros of both signs */
     size_t place;
     resize_reals(&t->values, t->columns.length);
-    resize_reals(&t->right, t->size);
+    resize_reals(&t->right, t->tall);
     for (place = 0; place < t->values.length; place++)
         t->values.at[place] = random_real(draw(2) == 0 ? kind : other);
     for (place = 0; place < t->right.length; place++)
@@ -113,21 +159,21 @@ static void make_values(trial *t, size_t kind, size_t other)
         zero_a_column(t);
 }
 
-static void make_work(dlm_work *work, size_t n)
+static void make_work(dlm_work *work, size_t height)
 {
-    resize_numbers(&work->row_heads, n + 1);
-    resize_numbers(&work->row_links, n + 1);
-    resize_numbers(&work->set_heads, n + 1);
-    resize_numbers(&work->set_links, n + 1);
-    resize_numbers(&work->list, n);
-    resize_numbers(&work->spare, n);
-    resize_reals(&work->copy, n);
-    resize_reals(&work->dense, n + 1);
+    resize_numbers(&work->row_heads, height + 1);
+    resize_numbers(&work->row_links, height + 1);
+    resize_numbers(&work->set_heads, height + 1);
+    resize_numbers(&work->set_links, height + 1);
+    resize_numbers(&work->list, height);
+    resize_numbers(&work->spare, height);
+    resize_reals(&work->copy, height);
+    resize_reals(&work->dense, height + 1);
 }
 
-static void make_plan_stores(dlm_plan *plan, size_t n)
+static void make_plan_stores(dlm_plan *plan, size_t n, size_t height)
 {
-    resize_numbers(&plan->l_subs, n * (n - 1) / 2);
+    resize_numbers(&plan->l_subs, n * (n - 1) / 2 + n * (height - n));
     resize_numbers(&plan->l_starts, n);
     resize_numbers(&plan->l_slots, n + 1);
     resize_numbers(&plan->u_subs, n * (n - 1) / 2);
@@ -138,7 +184,8 @@ static void make_plan_stores(dlm_plan *plan, size_t n)
 /* None, one, or two that test the order of the table: any two, or two of which one is checked just before the other. */
 static void choose_faults(trial *t)
 {
-    static const unsigned char pairs[][2] = {{7, 8}, {6, 9}, {9, 10}, {10, 11}, {11, 12}, {12, 13}};
+    static const unsigned char all[] = {1, 25, 2, 3, 4, 5, 6, 7, 8, 26, 9, 10, 11, 12, 13, 14};
+    static const unsigned char pairs[][2] = {{1, 25}, {25, 2}, {7, 8}, {6, 26}, {26, 9}, {6, 9}, {9, 10}, {10, 11}, {11, 12}, {12, 13}};
     size_t pair = draw(sizeof pairs / sizeof pairs[0]);
     size_t way = draw(10);
     if (way < 5)
@@ -147,42 +194,54 @@ static void choose_faults(trial *t)
         t->fault[pairs[pair][0]] = t->fault[pairs[pair][1]] = 1;
         return;
     }
-    t->fault[1 + draw(14)] = 1;
+    t->fault[all[draw(sizeof all)]] = 1;
     if (way == 8)
-        t->fault[1 + draw(14)] = 1;
+        t->fault[all[draw(sizeof all)]] = 1;
 }
 
-static void make_system(trial *t, size_t n, size_t kind, size_t other)
+static void make_system(trial *t, size_t n, size_t height, size_t kind, size_t other)
 {
     t->size = t->n = n;
-    make_pattern(t, 1 + draw(n < 8 ? 3 : n));
+    t->tall = t->height = height;
+    make_pattern(t, draw_one_in(t));
     make_values(t, kind, other);
-    make_work(&t->work, n);
-    make_plan_stores(&t->plan, n);
+    make_work(&t->work, height);
+    make_plan_stores(&t->plan, n, height);
 }
 
 /* Subnormal numbers get whole ones beside them: alone they have no pivot. */
-void make_trial(trial *t, size_t n)
+static void make_mixed_system(trial *t, size_t n, size_t height)
 {
-    size_t kind;
+    size_t kind = t->fault[14] ? (size_t)NEAR_OVERFLOW : draw(4) == 0 ? draw(KINDS) : draw(4);
+    make_system(t, n, height, kind, draw(3) == 0 || kind == SUBNORMAL ? (size_t)SMALL_WHOLE : kind);
+}
+
+void make_trial(trial *t, size_t n, size_t height)
+{
     memset(t, 0, sizeof *t);
     choose_faults(t);
-    kind = t->fault[14] ? (size_t)NEAR_OVERFLOW : draw(4) == 0 ? draw(KINDS) : draw(4);
-    make_system(t, n, kind, draw(3) == 0 || kind == SUBNORMAL ? (size_t)SMALL_WHOLE : kind);
+    make_mixed_system(t, n, t->fault[26] && height == n ? n + 1 : height);
+}
+
+void make_good_trial(trial *t, size_t n, size_t height)
+{
+    memset(t, 0, sizeof *t);
+    make_mixed_system(t, n, height);
 }
 
 /* Whole numbers beside them: what is faint is passed over, and quotients by what is not come near overflow or pass it. */
-void make_limit_trial(trial *t, size_t n)
+void make_limit_trial(trial *t, size_t n, size_t height)
 {
     memset(t, 0, sizeof *t);
     t->around_limit = 1;
-    make_system(t, n, AROUND_LIMIT, draw(3) == 0 ? (size_t)SMALL_WHOLE : (size_t)AROUND_LIMIT);
+    make_system(t, n, height, AROUND_LIMIT, draw(3) == 0 ? (size_t)SMALL_WHOLE : (size_t)AROUND_LIMIT);
 }
 
 void make_given_trial(trial *t, const dlm_pattern *pattern, const dlm_system *system)
 {
     memset(t, 0, sizeof *t);
     t->size = t->n = pattern->n;
+    t->tall = t->height = pattern->height;
     resize_numbers(&t->starts, pattern->starts_length);
     resize_numbers(&t->columns, pattern->entries);
     resize_reals(&t->values, system->values_length);
@@ -191,8 +250,8 @@ void make_given_trial(trial *t, const dlm_pattern *pattern, const dlm_system *sy
     memcpy(t->columns.at, pattern->columns, pattern->entries * sizeof *pattern->columns);
     memcpy(t->values.at, system->values, system->values_length * sizeof *system->values);
     memcpy(t->right.at, system->right, system->right_length * sizeof *system->right);
-    make_work(&t->work, t->n);
-    make_plan_stores(&t->plan, t->n);
+    make_work(&t->work, t->height);
+    make_plan_stores(&t->plan, t->n, t->height);
 }
 
 void free_trial(trial *t)
@@ -207,16 +266,31 @@ void free_trial(trial *t)
     dlm_factor_free(&t->factor);
 }
 
+/* Any row that 12 lets pass at step k. */
+static size_t draw_row(const trial *t, size_t k)
+{
+    return k + draw(t->tall - k + 1);
+}
+
 void make_rows(trial *t, plain_choice choice)
 {
     static plain_run run;
     dlm_pattern pattern = trial_pattern(t);
     dlm_system system = trial_system(t);
     size_t k;
-    plain_eliminate(&pattern, &system, choice, NULL, draw, dlm_whole(), &run);
+    plain_eliminate(&pattern, &system, choice, NULL, draw, dlm_cut(t->size), &run);
     resize_numbers(&t->rows, t->size);
     for (k = 1; k <= t->size; k++)
-        t->rows.at[k - 1] = run.pivots[k];
+        t->rows.at[k - 1] = run.pivots[k] != 0 ? run.pivots[k] : draw_row(t, k);
+}
+
+static dlm_extent draw_extent(const trial *t)
+{
+    if (t->fault[26])
+        return dlm_whole();
+    if (t->tall > t->size)
+        return dlm_cut(draw(2) == 0 ? t->size : draw(t->size + 1));
+    return draw(3) == 0 ? dlm_cut(draw(t->size + 1)) : dlm_whole();
 }
 
 void make_run(trial *t, const plain_plan *plain)
@@ -224,10 +298,10 @@ void make_run(trial *t, const plain_plan *plain)
     size_t k;
     make_rows(t, AT_RANDOM);
     for (k = 1; k <= t->size; k++)
-        if (t->rows.at[k - 1] == 0 || draw(t->around_limit ? 6 : 60) == 0)
-            t->rows.at[k - 1] = k + draw(t->size - k + 1);
+        if (draw(t->around_limit ? 6 : 60) == 0)
+            t->rows.at[k - 1] = draw_row(t, k);
     t->listed = draw(2) == 0;
-    t->extent = draw(3) == 0 ? dlm_cut(draw(t->size + 1)) : dlm_whole();
+    t->extent = draw_extent(t);
     make_results(t, plain);
 }
 
@@ -236,7 +310,7 @@ void make_results(trial *t, const plain_plan *plain)
     resize_reals(&t->factor.l, plain->l.slots[t->size] + draw(3));
     resize_reals(&t->factor.u, plain->u.slots[t->size] + draw(3));
     resize_reals(&t->factor.d, t->size);
-    resize_reals(&t->factor.x, t->size);
+    resize_reals(&t->factor.x, t->tall);
     resize_numbers(&t->factor.pivots, t->size);
 }
 
@@ -286,6 +360,16 @@ static size_t another_length(size_t length)
     return way == 1 ? length - 1 : 0;
 }
 
+/* The same, but where rows and columns are not as many, often the length that the other count would give. */
+static size_t other_length(const trial *t, size_t length)
+{
+    if (t->tall == t->size || draw(2) == 0)
+        return another_length(length);
+    if (length == t->tall || length == t->size)
+        return t->tall + t->size - length;
+    return length == t->tall + 1 ? t->size + 1 : t->tall + 1;
+}
+
 static void spoil_limits(trial *t)
 {
     static const size_t sizes[] = {0, 1025, 4096, SIZE_MAX};
@@ -295,21 +379,34 @@ static void spoil_limits(trial *t)
         t->n = sizes[draw(4)];
 }
 
+/* A row less than n, none, one too many or far too many; the row starts stay, or follow. */
+static void spoil_height(trial *t)
+{
+    size_t heights[4];
+    heights[0] = t->size - 1;
+    heights[1] = 0;
+    heights[2] = DLM_MOST_HEIGHT + 1;
+    heights[3] = SIZE_MAX;
+    t->height = heights[draw(4)];
+    if (t->height != SIZE_MAX && draw(2) == 0)
+        resize_numbers(&t->starts, t->height + 1);
+}
+
 static void spoil_starts(trial *t)
 {
     size_t way = draw(4);
-    size_t place = draw(t->size + 1);
+    size_t place = draw(t->tall + 1);
     if (way == 0)
-        resize_numbers(&t->starts, another_length(t->starts.length));
+        resize_numbers(&t->starts, other_length(t, t->starts.length));
     else if (way == 1)
         t->starts.at[0] = 1;
     else if (way == 2)
-        t->starts.at[t->size] = draw(2) == 0 ? t->columns.length + 1 : t->columns.length - 1;
+        t->starts.at[t->tall] = draw(2) == 0 ? t->columns.length + 1 : t->columns.length - 1;
     else
         t->starts.at[place] = draw(2) == 0 ? SIZE_MAX : 0;
 }
 
-/* Takes out the diagonal of a row. */
+/* Takes out the diagonal of a row that needs it. */
 static void spoil_diagonal(trial *t)
 {
     size_t row = 1 + draw(t->size);
@@ -319,7 +416,7 @@ static void spoil_diagonal(trial *t)
         place++;
     for (; place + 1 < t->columns.length; place++)
         t->columns.at[place] = t->columns.at[place + 1];
-    for (i = row; i <= t->size; i++)
+    for (i = row; i <= t->tall; i++)
         t->starts.at[i]--;
     resize_numbers(&t->columns, t->columns.length - 1);
     resize_reals(&t->values, t->values.length - 1);
@@ -353,13 +450,10 @@ void spoil_pattern(trial *t)
         spoil_column(t);
     if (t->fault[2])
         spoil_starts(t);
+    if (t->fault[25])
+        spoil_height(t);
     if (t->fault[1])
         spoil_limits(t);
-}
-
-static void spoil_length(dlm_numbers *store)
-{
-    resize_numbers(store, another_length(store->length));
 }
 
 /* One of the stores whose length is fixed: of the first ten, which planning takes, or of all twelve. */
@@ -377,11 +471,11 @@ static void spoil_a_length(trial *t, size_t which)
     fixed[8] = &t->plan.u_starts;
     fixed[9] = &t->plan.u_slots;
     if (which < 10)
-        spoil_length(fixed[which]);
+        resize_numbers(fixed[which], other_length(t, fixed[which]->length));
     else if (which == 10)
-        resize_reals(&t->work.copy, another_length(t->work.copy.length));
+        resize_reals(&t->work.copy, other_length(t, t->work.copy.length));
     else
-        resize_reals(&t->work.dense, another_length(t->work.dense.length));
+        resize_reals(&t->work.dense, other_length(t, t->work.dense.length));
 }
 
 void spoil_plan_stores(trial *t, const plain_plan *plain)
@@ -412,8 +506,8 @@ static void spoil_a_number(dlm_numbers store)
 static void spoil_plan(trial *t)
 {
     dlm_plan *plan = &t->plan;
-    size_t numbers[7];
-    dlm_numbers counts = {numbers, 7};
+    size_t numbers[DLM_COUNTS];
+    dlm_numbers counts = {numbers, DLM_COUNTS};
     switch (draw(8)) {
     case 0: spoil_a_number(plan->l_subs); break;
     case 1: spoil_a_number(plan->l_starts); break;
@@ -433,10 +527,10 @@ static void spoil_lending(trial *t)
 {
     switch (draw(7)) {
     case 0: resize_reals(&t->values, another_length(t->values.length)); break;
-    case 1: resize_reals(&t->right, another_length(t->right.length)); break;
-    case 2: resize_reals(&t->factor.x, another_length(t->factor.x.length)); break;
-    case 3: resize_reals(&t->factor.d, another_length(t->factor.d.length)); break;
-    case 4: resize_numbers(&t->factor.pivots, another_length(t->factor.pivots.length)); break;
+    case 1: resize_reals(&t->right, other_length(t, t->right.length)); break;
+    case 2: resize_reals(&t->factor.x, other_length(t, t->factor.x.length)); break;
+    case 3: resize_reals(&t->factor.d, other_length(t, t->factor.d.length)); break;
+    case 4: resize_numbers(&t->factor.pivots, other_length(t, t->factor.pivots.length)); break;
     case 5: resize_reals(&t->factor.l, t->plan.counts.l_slots > 0 ? draw(t->plan.counts.l_slots) : 0); break;
     default: resize_reals(&t->factor.u, t->plan.counts.u_slots > 0 ? draw(t->plan.counts.u_slots) : 0);
     }
@@ -448,11 +542,11 @@ static void spoil_rows(trial *t)
     size_t way = draw(4);
     t->listed = 1;
     if (way == 0)
-        resize_numbers(&t->rows, another_length(t->rows.length));
+        resize_numbers(&t->rows, other_length(t, t->rows.length));
     else if (way == 1)
         t->rows.at[k - 1] = k - 1;
     else if (way == 2)
-        t->rows.at[k - 1] = draw(2) == 0 ? t->size + 1 : SIZE_MAX;
+        t->rows.at[k - 1] = draw(2) == 0 ? t->tall + 1 : SIZE_MAX;
     else
         t->extent = dlm_cut(draw(2) == 0 ? t->size + 1 : SIZE_MAX);
 }
@@ -471,8 +565,8 @@ static void spoil_a_real(dlm_reals store)
 
 void spoil_run(trial *t)
 {
-    if (t->fault[6]) /* with 9 a store that verifying does not know, and running has to look at before it says 9 */
-        spoil_a_length(t, t->fault[9] ? 10 + draw(2) : draw(12));
+    if (t->fault[6]) /* with 9, and often with 26, a store that verifying does not know, and running has to look at before it says 9 or 26 */
+        spoil_a_length(t, t->fault[9] || (t->fault[26] && draw(2) == 0) ? 10 + draw(2) : draw(12));
     if (t->fault[9])
         spoil_plan(t);
     if (t->fault[11])

@@ -1,4 +1,5 @@
-/* The plan of document 01 (report CS-84-43, sections 2 and 3.1) with shared subscripts by document 02, ticket 5, and refusals 1 to 5, 7 and 8. */
+/* The plan of document 01 (report CS-84-43, sections 2 and 3.1) with shared subscripts by document 02, ticket 5, and more rows than columns by ticket 9;
+   refusals 1, 25, 2 to 5, 7 and 8. */
 #include "plain.h"
 
 #include <string.h>
@@ -14,15 +15,15 @@ dlm_answer plain_answer(size_t number, size_t step)
 static int starts_are_well_formed(const dlm_pattern *pattern)
 {
     size_t i;
-    if (pattern->starts_length != pattern->n + 1 || pattern->starts[0] != 0)
+    if (pattern->starts_length != pattern->height + 1 || pattern->starts[0] != 0)
         return 0;
-    for (i = 1; i <= pattern->n; i++)
+    for (i = 1; i <= pattern->height; i++)
         if (pattern->starts[i] < pattern->starts[i - 1])
             return 0;
-    return pattern->starts[pattern->n] == pattern->entries;
+    return pattern->starts[pattern->height] == pattern->entries;
 }
 
-/* 3 before 4 at an entry, 5 at the row's end. */
+/* 3 before 4 at an entry, 5 at the row's end. "Rows above n need no diagonal and may be empty". */
 static size_t fault_of_row(const dlm_pattern *pattern, size_t i)
 {
     size_t place;
@@ -36,17 +37,19 @@ static size_t fault_of_row(const dlm_pattern *pattern, size_t i)
         if (column == i)
             diagonal = 1;
     }
-    return diagonal ? 0 : 5;
+    return diagonal || i > pattern->n ? 0 : 5;
 }
 
 dlm_answer plain_judge_pattern(const dlm_pattern *pattern)
 {
     size_t i;
-    if (pattern->n == 0 || pattern->n > DLM_MOST_ROWS || pattern->entries > DLM_MOST_ENTRIES)
+    if (pattern->n == 0 || pattern->n > 1024 || pattern->entries > 16384)
         return plain_answer(1, 0);
+    if (pattern->height < pattern->n || pattern->height > 2048)
+        return plain_answer(25, 0);
     if (!starts_are_well_formed(pattern))
         return plain_answer(2, 0);
-    for (i = 1; i <= pattern->n; i++) {
+    for (i = 1; i <= pattern->height; i++) {
         size_t fault = fault_of_row(pattern, i);
         if (fault != 0)
             return plain_answer(fault, 0);
@@ -56,7 +59,7 @@ dlm_answer plain_judge_pattern(const dlm_pattern *pattern)
 
 /* The sets that planning grows beside the lists. */
 typedef struct growing {
-    unsigned char met[PLAIN_MOST + 1];
+    unsigned char met[PLAIN_TALL + 1];
     unsigned char s[PLAIN_MOST + 1][PLAIN_MOST + 1]; /* s[r][k]: k belongs to S_r */
 } growing;
 
@@ -75,7 +78,7 @@ static size_t meet_rows(const dlm_pattern *pattern, size_t k, growing *sets, pla
     size_t i;
     size_t place;
     size_t first_met = 0;
-    for (i = 1; i <= plan->n; i++) {
+    for (i = 1; i <= plan->height; i++) {
         if (!row_has(pattern, i, k))
             continue;
         plan->reads++; /* i as a member of C_k */
@@ -93,10 +96,10 @@ static size_t meet_rows(const dlm_pattern *pattern, size_t k, growing *sets, pla
 }
 
 /* The members of the list of step l that are k or more join that of step k; all members are read. */
-static void join_list(plain_side *side, size_t n, size_t l, size_t k, size_t *reads)
+static void join_list(plain_side *side, size_t l, size_t k, size_t *reads)
 {
     size_t i;
-    for (i = 1; i <= n; i++) {
+    for (i = 1; i <= side->last; i++) {
         if (!side->has[l][i])
             continue;
         ++*reads;
@@ -115,18 +118,18 @@ static size_t join_set(size_t k, const growing *sets, plain_plan *plan, size_t *
             continue;
         members++;
         *sole = l;
-        join_list(&plan->l, plan->n, l, k, &plan->reads);
-        join_list(&plan->u, plan->n, l, k, &plan->reads);
+        join_list(&plan->l, l, k, &plan->reads);
+        join_list(&plan->u, l, k, &plan->reads);
     }
     return members;
 }
 
 /* Writes the members beyond k and returns how many there are. */
-static size_t kept_list(const plain_side *side, size_t n, size_t k, size_t *list)
+static size_t kept_list(const plain_side *side, size_t k, size_t *list)
 {
     size_t i;
     size_t count = 0;
-    for (i = k + 1; i <= n; i++)
+    for (i = k + 1; i <= side->last; i++)
         if (side->has[k][i])
             list[count++] = i;
     return count;
@@ -144,10 +147,10 @@ static size_t longest_shared_end(const plain_side *side, size_t k, const size_t 
 }
 
 /* `sole` is l if S_k is the one step l and no row was first met at k, else 0. */
-static void share_subscripts(plain_side *side, size_t n, size_t k, size_t sole)
+static void share_subscripts(plain_side *side, size_t k, size_t sole)
 {
-    size_t list[PLAIN_MOST];
-    size_t count = kept_list(side, n, k, list);
+    size_t list[PLAIN_TALL];
+    size_t count = kept_list(side, k, list);
     size_t end = side->end[k - 1];
     size_t t = 0;
     side->kept[k] = count;
@@ -165,7 +168,7 @@ static void share_subscripts(plain_side *side, size_t n, size_t k, size_t sole)
     }
 }
 
-/* If L_k has more than one member, k joins S_r, r being the least member of U_k above k. */
+/* If L_k has more than one member, k joins S_r, r being the least member of U_k above k: no S "if U_k has no further member". */
 static void hand_on(size_t k, const plain_plan *plan, growing *sets)
 {
     size_t r;
@@ -185,7 +188,8 @@ void plain_make_plan(const dlm_pattern *pattern, plain_plan *plan)
     size_t k;
     memset(&sets, 0, sizeof sets);
     memset(plan, 0, sizeof *plan);
-    plan->n = pattern->n;
+    plan->n = plan->u.last = pattern->n;
+    plan->height = plan->l.last = pattern->height;
     plan->entries = pattern->entries;
     for (k = 1; k <= plan->n; k++) {
         size_t sole = 0;
@@ -193,8 +197,8 @@ void plain_make_plan(const dlm_pattern *pattern, plain_plan *plan)
         size_t members = join_set(k, &sets, plan, &sole);
         if (first_met != 0 || members != 1)
             sole = 0;
-        share_subscripts(&plan->l, plan->n, k, sole);
-        share_subscripts(&plan->u, plan->n, k, sole);
+        share_subscripts(&plan->l, k, sole);
+        share_subscripts(&plan->u, k, sole);
         hand_on(k, plan, &sets);
     }
 }

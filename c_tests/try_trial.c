@@ -63,6 +63,7 @@ void try_plan(trial *t, plain_plan *plain)
     check_stores("plan", fault_in_work(&t->work, 0));
     check_stores("plan", digest_of_pattern(t) == before ? NULL : "an input is changed");
     total.planned += expected.refusal == DLM_NONE;
+    total.planned_tall += expected.refusal == DLM_NONE && t->height > t->n;
 }
 
 void try_verify(trial *t, const plain_plan *plain)
@@ -87,6 +88,23 @@ static dlm_answer run_trial(trial *t)
     return dlm_run_largest(&pattern, &t->plan, &system, t->extent, &t->factor, &t->work);
 }
 
+static int has_row_above(const trial *t, const plain_run *run)
+{
+    size_t k;
+    for (k = 1; k <= t->n; k++)
+        if (run->pivots[k] > t->n)
+            return 1;
+    return 0;
+}
+
+static void count_finished(const trial *t, const plain_run *run)
+{
+    total.finished[(t->listed ? 2 : 0) + (t->extent.cut != 0 ? 1 : 0)]++;
+    total.passed_over += run->passed_over > 0;
+    total.tall[t->listed] += t->height > t->n;
+    total.above[t->listed] += has_row_above(t, run) != 0;
+}
+
 void try_run(trial *t, const plain_plan *plain)
 {
     static plain_run run;
@@ -101,9 +119,7 @@ void try_run(trial *t, const plain_plan *plain)
     check_stores("second run", fault_in_work(&t->work, 1));
     check_stores("second run", digest_of_results(t) == results ? NULL : "bits differ from the first run's");
     check_stores("run", digest_of_inputs(t) == before ? NULL : "an input is changed");
-    if (expected.refusal == DLM_NONE) {
-        total.finished[(t->listed ? 2 : 0) + (t->extent.cut != 0 ? 1 : 0)]++;
-        total.passed_over += run.passed_over > 0;
-    }
+    if (expected.refusal == DLM_NONE)
+        count_finished(t, &run);
     total.by_limit[t->listed] += expected.refusal == DLM_NO_PIVOT && run.by_limit;
 }

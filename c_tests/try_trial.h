@@ -8,9 +8,11 @@
 
 typedef struct score {
     size_t system;   /* the system that is tried, for what is printed */
-    size_t seen[15]; /* answers by number */
-    size_t planned;
+    size_t seen[NUMBERS]; /* answers by number */
+    size_t planned, planned_tall; /* all, and those of them with more rows than columns */
     size_t finished[4]; /* by the largest entry and by list, whole and cut */
+    size_t tall[2];     /* of them those of systems with more rows than columns, by the largest entry and by list */
+    size_t above[2];    /* of these those with a pivot row above n */
     size_t printed;     /* jobs that print a solution */
     size_t by_limit[2]; /* 13 for the least magnitude of a pivot alone, by the largest entry and by list */
     size_t passed_over; /* finished though some column had a fainter entry */

@@ -22,7 +22,7 @@ program four_fields
 
   answer = dlm_make_plan(pattern, plan, work)
   call stop_if_refused("plan")
-  print '(a, 7(1x, i0))', "plan", plan%counts
+  print '(a, 7(1x, i0))', "plan", plan%counts(1), plan%counts(3:)     ! a square's row count is n
 
   answer = dlm_run_largest(pattern, plan, values, right_side, factor, work)
   call stop_if_refused("run")

@@ -5,6 +5,8 @@
  *
  *   Counting   Rows, columns, steps and members of a tally count from 1, as in the papers. Places in stores count from 0: what belongs
  *              to row, column, step or member k stands at place k-1.
+ *   Rows       A pattern has n columns and n rows or more, up to 2,048: its row count, `height` in names. With n rows it is a square, and its
+ *              systems can be solved; with more it is tall, and is run only when cut to its first steps.
  *   Stores     A store is a pointer and its number of places. The pointer must be valid for all of them, and a store lent for writing
  *              must not overlap any other store of the same call. That is all a caller has to see to: every length and every number
  *              gets an answer, a result or a refusal with its number. Inputs are never changed. In the functions dlm_* a NULL pointer
@@ -28,6 +30,13 @@
  *   answer = dlm_run_largest(&pattern, &plan, &system, dlm_whole(), &factor, &work);          the solution is factor.x
  *   dlm_factor_free(&factor); dlm_work_free(&work); dlm_plan_free(&plan);
  *
+ * For a tall system dlm_tall_pattern_of and dlm_tall_sizes_for take the row count behind n. It is cut, to its n columns at most:
+ *
+ *   answer = dlm_run_largest(&pattern, &plan, &system, dlm_cut(n), &factor, &work);
+ *
+ * The first n rows are then triangular, factor.d and factor.u, with the first n places of factor.x as their right side: back substitution gives
+ * the offsets, as examples/two_observers.c shows. The places of factor.x behind them are the misfit of the rows that served as no pivot.
+ *
  * Pattern and system may be a test load that a seed names, the same on every machine (dlm_load_free gives its stores back):
  *
  *   dlm_load_allocate(&load, n);
@@ -37,7 +46,7 @@
  * A plan serves every run on its pattern. Different threads may call at the same time with stores of their own (a plan that is only
  * run may be shared): the library keeps nothing. A tally takes one call at a time, for different members too, since a call writes all
  * sixteen counters. The library allocates nothing either; dalumiveth_job takes some 120 kB of the stack, the other
- * functions less than 2 kB.
+ * functions less than 4 kB.
  */
 #ifndef DALUMIVETH_H
 #define DALUMIVETH_H
@@ -53,10 +62,12 @@ extern "C" {
 /* The library is made for 64 bits; elsewhere this line does not compile. */
 typedef char dlm_size_t_has_64_bits[sizeof(size_t) == 8 ? 1 : -1];
 
-#define DLM_MOST_ROWS ((size_t)1024)      /* the largest n */
+#define DLM_MOST_N ((size_t)1024)         /* the largest n */
+#define DLM_MOST_HEIGHT ((size_t)2048)    /* the largest row count */
 #define DLM_MOST_ENTRIES ((size_t)16384)  /* the largest number of entries */
 #define DLM_MOST_JOB ((size_t)16384)      /* bytes of the longest job */
 #define DLM_MOST_PRINTED ((size_t)8192)   /* bytes that hold the answer to any job */
+#define DLM_COUNTS ((size_t)8)            /* numbers that a plan counts */
 #define DLM_MEMBERS ((size_t)16)          /* members of a tally: their numbers are 1 to 16 */
 #define DLM_OFFSET_BYTES ((size_t)14)     /* bytes of an offset's text */
 #define DLM_MOST_OFFSET INT64_C(1295999999)  /* the largest offset in milliarcseconds: +359 59 59.999 */
@@ -67,18 +78,18 @@ typedef char dlm_size_t_has_64_bits[sizeof(size_t) == 8 ? 1 : -1];
 typedef enum dlm_refusal {
     DLM_NONE = 0,           /* no refusal: planned, agreed, finished, added, read, written, made */
     DLM_LIMITS = 1,         /* n is 0 or above 1,024, or there are more than 16,384 entries */
-    DLM_STARTS = 2,         /* the row starts are not n+1, do not begin with 0, fall, or do not end with the number of entries */
+    DLM_STARTS = 2,         /* the row starts are not one more than the rows, do not begin with 0, fall, or do not end with the number of entries */
     DLM_COLUMN = 3,         /* a column is outside 1 to n */
     DLM_ORDER = 4,          /* the columns of a row do not ascend strictly */
-    DLM_DIAGONAL = 5,       /* a row lacks its diagonal */
+    DLM_DIAGONAL = 5,       /* one of the first n rows lacks its diagonal */
     DLM_STORES = 6,         /* a starts store of the plan, a work store, or a store for a job's text, a tally, an offset or a test load has
                                another length than the one given with it below */
     DLM_LOWER_ROOM = 7,     /* an L subscript does not fit; the step */
     DLM_UPPER_ROOM = 8,     /* a U subscript does not fit; the step */
     DLM_OTHER_PLAN = 9,     /* the lent plan differs from the pattern's in some count, start or used subscript */
-    DLM_LENDING = 10,       /* values not as many as entries, right side, x, pivots or d not n, or slots fewer than planned */
+    DLM_LENDING = 10,       /* values not as many as entries, right side or x not as many as rows, pivots or d not n, or slots fewer than planned */
     DLM_VALUES = 11,        /* a value or right side is not finite */
-    DLM_ROW_LIST = 12,      /* the row list is not n long, its row k is below k or above n, or a run is cut to more than n steps */
+    DLM_ROW_LIST = 12,      /* the row list is not n long, its row k is below k or above the row count, or a run is cut to more than n steps */
     DLM_NO_PIVOT = 13,      /* no row from k on, or not the listed row, has an entry of magnitude at least 2^-1022 in column k; the step k */
     DLM_NOT_FINITE = 14,    /* a quotient, product or difference is not finite; the step, in back substitution the row */
     DLM_JOB_COMMAND = 15,   /* job: a command byte is unknown or stands where it may not, or R names another row than the next */
@@ -87,6 +98,8 @@ typedef enum dlm_refusal {
     DLM_JOB_TOO_LONG = 18,  /* job: it is over 16,384 bytes */
     DLM_TALLY_FULL = 19,    /* the member's sum in the tally would pass 4,294,967,295; the tally stays as it was */
     DLM_NO_DIVISOR = 23,    /* the divisor d of a test load is 0 */
+    DLM_HEIGHT = 25,        /* the rows are fewer than n or more than 2,048 */
+    DLM_TALL = 26,          /* a system with more rows than n is to be solved: it can be run only when cut */
     DLM_NO_MEMBER = 27,     /* the member number is outside 1 to 16; the tally stays as it was */
     DLM_OFFSET_TEXT = 28,   /* the text is not an offset such as +012 34 56.789 (14 bytes, below 360 degrees), or it is minus zero */
     DLM_OFFSET_BEYOND = 29  /* the number of milliarcseconds is not finite or rounds beyond the largest, 1,295,999,999 */
@@ -98,17 +111,17 @@ static inline const char *dlm_sentence(size_t number)
     switch (number) {
     case 0: return "no refusal";
     case 1: return "n is 0 or above 1,024, or there are more than 16,384 entries";
-    case 2: return "the row starts are not n+1, do not begin with 0, fall, or do not end with the number of entries";
+    case 2: return "the row starts are not one more than the rows, do not begin with 0, fall, or do not end with the number of entries";
     case 3: return "a column is outside 1 to n";
     case 4: return "the columns of a row do not ascend strictly";
-    case 5: return "a row lacks its diagonal";
+    case 5: return "one of the first n rows lacks its diagonal";
     case 6: return "a starts store of the plan, a work store, or a store for a job's text, a tally, an offset or a test load has a wrong length";
     case 7: return "an L subscript does not fit into its store";
     case 8: return "a U subscript does not fit into its store";
     case 9: return "the lent plan is not this pattern's: some count, start or used subscript differs";
-    case 10: return "values are not as many as entries, right side, x, pivots or d not n, or slots fewer than planned";
+    case 10: return "values are not as many as entries, right side or x not as many as rows, pivots or d not n, or slots fewer than planned";
     case 11: return "a value or right side is not finite";
-    case 12: return "the row list is not n long, its row k is below k or above n, or the run is cut to more than n steps";
+    case 12: return "the row list is not n long, its row k is below k or above the row count, or the run is cut to more than n steps";
     case 13: return "no row from the step on, or not the listed row, has an entry of magnitude at least 2^-1022 in the step's column";
     case 14: return "a quotient, product or difference is not finite";
     case 15: return "job: a command byte is unknown or stands where it may not, or R names another row than the next";
@@ -117,6 +130,8 @@ static inline const char *dlm_sentence(size_t number)
     case 18: return "job: it is over 16,384 bytes";
     case 19: return "the member's sum in the tally would pass 4,294,967,295; the tally stays as it was";
     case 23: return "the divisor d of a test load is 0";
+    case 25: return "the rows are fewer than n or more than 2,048";
+    case 26: return "a system with more rows than n is to be solved: it can be run only when cut";
     case 27: return "the member number is outside 1 to 16; the tally stays as it was";
     case 28: return "the text is not an offset such as +012 34 56.789 (14 bytes, below 360 degrees), or it is minus zero";
     case 29: return "the number of milliarcseconds is not finite or rounds beyond the largest, 1,295,999,999";
@@ -145,10 +160,12 @@ typedef struct dlm_reals {
 
 /* Where entries may stand, row after row. */
 typedef struct dlm_pattern {
-    size_t n;               /* rows and columns, 1 to 1,024 */
-    const size_t *starts;   /* row i has the columns at places starts[i-1] to starts[i]-1; starts[0] is 0, starts[n] is entries */
-    size_t starts_length;   /* n+1 */
-    const size_t *columns;  /* column numbers, 1 to n, strictly ascending in each row, the diagonal among them */
+    size_t n;               /* columns, 1 to 1,024 */
+    size_t height;          /* rows, n to 2,048; n for a square */
+    const size_t *starts;   /* row i has the columns at places starts[i-1] to starts[i]-1; starts[0] is 0, starts[height] is entries */
+    size_t starts_length;   /* height+1 */
+    const size_t *columns;  /* column numbers, 1 to n, strictly ascending in each row; in the first n rows the diagonal among them. A row above n
+                               may be empty */
     size_t entries;         /* how many: at most 16,384 */
 } dlm_pattern;
 
@@ -157,12 +174,13 @@ typedef struct dlm_system {
     const double *values;  /* one for each column number of the pattern, in the same order; finite, zero of either sign allowed */
     size_t values_length;  /* entries */
     const double *right;   /* the right side; finite */
-    size_t right_length;   /* n */
+    size_t right_length;   /* height */
 } dlm_system;
 
-/* The seven counts of a plan, in the order in which the library numbers them. */
+/* The eight counts of a plan (DLM_COUNTS), in the order in which the library numbers them. */
 typedef struct dlm_counts {
     size_t n;
+    size_t height;        /* the row count */
     size_t entries;
     size_t l_subscripts;  /* used places of l_subs */
     size_t u_subscripts;  /* used places of u_subs */
@@ -175,7 +193,7 @@ typedef struct dlm_counts {
    The list of step k on a side has slots[k] - slots[k-1] members, from subs[starts[k-1]] on; its values are at slots[k-1] on. */
 typedef struct dlm_plan {
     dlm_counts counts;     /* zeros after a refusal */
-    dlm_numbers l_subs;    /* any length; n(n-1)/2 is always enough (proved), counts.l_subscripts are used */
+    dlm_numbers l_subs;    /* any length; n(n-1)/2 and n for each row above n are always enough (proved), counts.l_subscripts are used */
     dlm_numbers l_starts;  /* n: a place among l_subs for each step */
     dlm_numbers l_slots;   /* n+1: a place among the values l for each step, at the end their number */
     dlm_numbers u_subs;    /* any length; n(n-1)/2 is always enough (proved), counts.u_subscripts are used */
@@ -185,29 +203,30 @@ typedef struct dlm_plan {
 
 /* Room that calls work in: any numbers before, zeros after. Planning and verifying use the first six alone. */
 typedef struct dlm_work {
-    dlm_numbers row_heads;  /* n+1 */
-    dlm_numbers row_links;  /* n+1 */
-    dlm_numbers set_heads;  /* n+1 */
-    dlm_numbers set_links;  /* n+1 */
-    dlm_numbers list;       /* n */
-    dlm_numbers spare;      /* n */
-    dlm_reals copy;         /* n */
-    dlm_reals dense;        /* n+1 */
+    dlm_numbers row_heads;  /* height+1 */
+    dlm_numbers row_links;  /* height+1 */
+    dlm_numbers set_heads;  /* height+1 */
+    dlm_numbers set_links;  /* height+1 */
+    dlm_numbers list;       /* height */
+    dlm_numbers spare;      /* height */
+    dlm_reals copy;         /* height */
+    dlm_reals dense;        /* height+1 */
 } dlm_work;
 
-/* What a run leaves. After a cut run slots and diagonal have the places of the square as they then are, x the right side. */
+/* What a run leaves. After a cut run slots and diagonal have the places of the square, or of the rectangle of all rows and n columns, as they
+   then are, x the right side. */
 typedef struct dlm_factor {
     dlm_reals l;         /* at least counts.l_slots: multipliers, each where it was written (rows exchanged later do not move them) */
     dlm_reals u;         /* at least counts.u_slots: the rows of U beyond the diagonal */
     dlm_reals d;         /* n: the diagonal */
-    dlm_reals x;         /* n: the solution */
+    dlm_reals x;         /* height: the solution */
     dlm_numbers pivots;  /* n: the pivot row of each step done, then 0 */
     size_t updates;      /* subtractions in the matrix; 0 after a refusal */
 } dlm_factor;
 
 /* How far a run goes. */
 typedef struct dlm_extent {
-    size_t cut;    /* 0: all steps and back substitution; else the first `steps` steps alone */
+    size_t cut;    /* 0: all steps and back substitution, of squares alone; else the first `steps` steps alone */
     size_t steps;  /* 0 to n; not read in a whole run */
 } dlm_extent;
 
@@ -245,37 +264,40 @@ typedef struct dlm_load {
  * as many as it has room for, a longer one zeros behind. The number is returned as well. The dlm_* functions below take care of all this.
  */
 
-/* answer: number, step, and the seven counts. Refuses with 1 to 8. */
-size_t dalumiveth_plan(size_t most, size_t n, const size_t *starts, size_t starts_length, const size_t *columns, size_t columns_length,
-                       size_t *l_subs, size_t l_subs_length, size_t *l_starts, size_t l_starts_length, size_t *l_slots,
-                       size_t l_slots_length, size_t *u_subs, size_t u_subs_length, size_t *u_starts, size_t u_starts_length,
-                       size_t *u_slots, size_t u_slots_length, size_t *row_heads, size_t row_heads_length, size_t *row_links,
-                       size_t row_links_length, size_t *set_heads, size_t set_heads_length, size_t *set_links, size_t set_links_length,
-                       size_t *list, size_t list_length, size_t *spare, size_t spare_length, size_t *answer, size_t answer_length);
+/* answer: number, step, and the eight counts. Refuses with 1, 25 and 2 to 8, in this order. */
+size_t dalumiveth_plan(size_t most, size_t n, size_t height, const size_t *starts, size_t starts_length, const size_t *columns,
+                       size_t columns_length, size_t *l_subs, size_t l_subs_length, size_t *l_starts, size_t l_starts_length,
+                       size_t *l_slots, size_t l_slots_length, size_t *u_subs, size_t u_subs_length, size_t *u_starts,
+                       size_t u_starts_length, size_t *u_slots, size_t u_slots_length, size_t *row_heads, size_t row_heads_length,
+                       size_t *row_links, size_t row_links_length, size_t *set_heads, size_t set_heads_length, size_t *set_links,
+                       size_t set_links_length, size_t *list, size_t list_length, size_t *spare, size_t spare_length, size_t *answer,
+                       size_t answer_length);
 
-/* counts: the seven counts of the lent plan; missing ones read as 0, further ones are not read. answer: number, step. Refuses with 1 to 6
-   and 9. */
-size_t dalumiveth_verify(size_t most, size_t n, const size_t *starts, size_t starts_length, const size_t *columns, size_t columns_length,
-                         const size_t *counts, size_t counts_length, const size_t *l_subs, size_t l_subs_length, const size_t *l_starts,
-                         size_t l_starts_length, const size_t *l_slots, size_t l_slots_length, const size_t *u_subs,
-                         size_t u_subs_length, const size_t *u_starts, size_t u_starts_length, const size_t *u_slots,
-                         size_t u_slots_length, size_t *row_heads, size_t row_heads_length, size_t *row_links, size_t row_links_length,
-                         size_t *set_heads, size_t set_heads_length, size_t *set_links, size_t set_links_length, size_t *list,
-                         size_t list_length, size_t *spare, size_t spare_length, size_t *answer, size_t answer_length);
+/* counts: the eight counts of the lent plan; missing ones read as 0, further ones are not read. answer: number, step. Refuses with 1, 25, 2 to 6
+   and 9, in this order. */
+size_t dalumiveth_verify(size_t most, size_t n, size_t height, const size_t *starts, size_t starts_length, const size_t *columns,
+                         size_t columns_length, const size_t *counts, size_t counts_length, const size_t *l_subs, size_t l_subs_length,
+                         const size_t *l_starts, size_t l_starts_length, const size_t *l_slots, size_t l_slots_length,
+                         const size_t *u_subs, size_t u_subs_length, const size_t *u_starts, size_t u_starts_length,
+                         const size_t *u_slots, size_t u_slots_length, size_t *row_heads, size_t row_heads_length, size_t *row_links,
+                         size_t row_links_length, size_t *set_heads, size_t set_heads_length, size_t *set_links,
+                         size_t set_links_length, size_t *list, size_t list_length, size_t *spare, size_t spare_length, size_t *answer,
+                         size_t answer_length);
 
-/* by_list 0: by the largest entry, and rows is not read; else rows[k-1] is the pivot row of step k, from k to n. cut 0: a whole run, and steps
-   is not read; else the first `steps` steps. answer: number, step, updates. Refuses with 1 to 6 and 9 to 14. */
-size_t dalumiveth_run(size_t most, size_t n, const size_t *starts, size_t starts_length, const size_t *columns, size_t columns_length,
-                      const size_t *counts, size_t counts_length, const size_t *l_subs, size_t l_subs_length, const size_t *l_starts,
-                      size_t l_starts_length, const size_t *l_slots, size_t l_slots_length, const size_t *u_subs, size_t u_subs_length,
-                      const size_t *u_starts, size_t u_starts_length, const size_t *u_slots, size_t u_slots_length,
-                      const double *values, size_t values_length, const double *right, size_t right_length, size_t by_list,
-                      const size_t *rows, size_t rows_length, size_t cut, size_t steps, double *l, size_t l_length, double *u,
-                      size_t u_length, double *d, size_t d_length, double *x, size_t x_length, size_t *pivots, size_t pivots_length,
-                      size_t *row_heads, size_t row_heads_length, size_t *row_links, size_t row_links_length, size_t *set_heads,
-                      size_t set_heads_length, size_t *set_links, size_t set_links_length, size_t *list, size_t list_length,
-                      size_t *spare, size_t spare_length, double *copy, size_t copy_length, double *dense, size_t dense_length,
-                      size_t *answer, size_t answer_length);
+/* by_list 0: by the largest entry, and rows is not read; else rows[k-1] is the pivot row of step k, from k to the row count. cut 0: a whole run,
+   and steps is not read; else the first `steps` steps. answer: number, step, updates. Refuses with 1, 25, 2 to 6, 26 and 9 to 14, in this
+   order, 13 and 14 as the run meets them. */
+size_t dalumiveth_run(size_t most, size_t n, size_t height, const size_t *starts, size_t starts_length, const size_t *columns,
+                      size_t columns_length, const size_t *counts, size_t counts_length, const size_t *l_subs, size_t l_subs_length,
+                      const size_t *l_starts, size_t l_starts_length, const size_t *l_slots, size_t l_slots_length,
+                      const size_t *u_subs, size_t u_subs_length, const size_t *u_starts, size_t u_starts_length, const size_t *u_slots,
+                      size_t u_slots_length, const double *values, size_t values_length, const double *right, size_t right_length,
+                      size_t by_list, const size_t *rows, size_t rows_length, size_t cut, size_t steps, double *l, size_t l_length,
+                      double *u, size_t u_length, double *d, size_t d_length, double *x, size_t x_length, size_t *pivots,
+                      size_t pivots_length, size_t *row_heads, size_t row_heads_length, size_t *row_links, size_t row_links_length,
+                      size_t *set_heads, size_t set_heads_length, size_t *set_links, size_t set_links_length, size_t *list,
+                      size_t list_length, size_t *spare, size_t spare_length, double *copy, size_t copy_length, double *dense,
+                      size_t dense_length, size_t *answer, size_t answer_length);
 
 /* counters: 16 places (DLM_MEMBERS), member 1's first: the updates are added to the member's, the others hold what they held. answer: number (0,
    6, 27 or 19), step 0, and the member's new sum. A `counters` of another length is 6, whatever the member is; a member number outside 1 to
@@ -343,7 +365,7 @@ static inline const double *dlm_read_reals(const double *at)
 
 /* The arguments that several functions take in the same order. */
 #define DLM_PATTERN(p) \
-    DLM_MOST_ROWS, (p)->n, DLM_READ_NUMBERS((p)->starts, (p)->starts_length), DLM_READ_NUMBERS((p)->columns, (p)->entries)
+    DLM_MOST_N, (p)->n, (p)->height, DLM_READ_NUMBERS((p)->starts, (p)->starts_length), DLM_READ_NUMBERS((p)->columns, (p)->entries)
 #define DLM_PLAN(p) \
     DLM_NUMBERS((p)->l_subs), DLM_NUMBERS((p)->l_starts), DLM_NUMBERS((p)->l_slots), DLM_NUMBERS((p)->u_subs), \
         DLM_NUMBERS((p)->u_starts), DLM_NUMBERS((p)->u_slots)
@@ -363,58 +385,63 @@ static inline dlm_answer dlm_answer_in(const size_t *numbers)
     return answer;
 }
 
-/* The counts as the seven numbers that verifying and running read. */
-static inline void dlm_counts_out(const dlm_counts *counts, size_t numbers[7])
+/* The counts as the eight numbers that verifying and running read. */
+static inline void dlm_counts_out(const dlm_counts *counts, size_t numbers[DLM_COUNTS])
 {
     numbers[0] = counts->n;
-    numbers[1] = counts->entries;
-    numbers[2] = counts->l_subscripts;
-    numbers[3] = counts->u_subscripts;
-    numbers[4] = counts->l_slots;
-    numbers[5] = counts->u_slots;
-    numbers[6] = counts->reads;
+    numbers[1] = counts->height;
+    numbers[2] = counts->entries;
+    numbers[3] = counts->l_subscripts;
+    numbers[4] = counts->u_subscripts;
+    numbers[5] = counts->l_slots;
+    numbers[6] = counts->u_slots;
+    numbers[7] = counts->reads;
 }
 
-static inline dlm_counts dlm_counts_in(const size_t numbers[7])
+static inline dlm_counts dlm_counts_in(const size_t numbers[DLM_COUNTS])
 {
     dlm_counts counts;
     counts.n = numbers[0];
-    counts.entries = numbers[1];
-    counts.l_subscripts = numbers[2];
-    counts.u_subscripts = numbers[3];
-    counts.l_slots = numbers[4];
-    counts.u_slots = numbers[5];
-    counts.reads = numbers[6];
+    counts.height = numbers[1];
+    counts.entries = numbers[2];
+    counts.l_subscripts = numbers[3];
+    counts.u_subscripts = numbers[4];
+    counts.l_slots = numbers[5];
+    counts.u_slots = numbers[6];
+    counts.reads = numbers[7];
     return counts;
 }
 
 /* ------------------------------------------------------------------ sizes */
 
-/* The part of dlm_sizes_for that n and the entries decide. */
-static inline dlm_sizes dlm_sizes_by_rows(size_t n, size_t entries)
+/* The part of the sizes that n, the row count and the entries decide. */
+static inline dlm_sizes dlm_sizes_by_rows(size_t n, size_t height, size_t entries)
 {
     dlm_sizes sizes;
     sizes.columns = sizes.values = entries;
-    sizes.right = sizes.rows = n;
+    sizes.starts = height + 1;
+    sizes.right = sizes.x = height;
+    sizes.rows = sizes.d = sizes.pivots = n;
     sizes.l_starts = sizes.u_starts = n;
-    sizes.starts = sizes.l_slots = sizes.u_slots = n + 1;
-    sizes.row_heads = sizes.row_links = sizes.set_heads = sizes.set_links = n + 1;
-    sizes.list = sizes.spare = sizes.copy = n;
-    sizes.dense = n + 1;
-    sizes.d = sizes.x = sizes.pivots = n;
-    sizes.l_subs = sizes.u_subs = sizes.l = sizes.u = n * (n - 1) / 2;
+    sizes.l_slots = sizes.u_slots = n + 1;
+    sizes.row_heads = sizes.row_links = sizes.set_heads = sizes.set_links = height + 1;
+    sizes.list = sizes.spare = sizes.copy = height;
+    sizes.dense = height + 1;
+    sizes.u_subs = sizes.u = n * (n - 1) / 2;
+    sizes.l_subs = sizes.l = n * (n - 1) / 2 + n * (height - n);
     return sizes;
 }
 
-/* How long each store must be. Before planning (`planned` NULL) subscripts and slots are what is always enough, n(n-1)/2 a side; once
-   planned, what the plan uses. For an n or entries that are refused with 1, all sizes are 0. */
-static inline dlm_sizes dlm_sizes_for(size_t n, size_t entries, const dlm_counts *planned)
+/* How long each store must be for a pattern of so many rows. Before planning (`planned` NULL) subscripts and slots are what is always enough,
+   n(n-1)/2 a side and in L n more for each row above n; once planned, what the plan uses. For an n or entries that are refused with 1, or a
+   row count that is refused with 25, all sizes are 0. */
+static inline dlm_sizes dlm_tall_sizes_for(size_t n, size_t height, size_t entries, const dlm_counts *planned)
 {
     static const dlm_sizes none = {0, 0, 0, 0, 0, 0, 0, 0, 0, 0, 0, 0, 0, 0, 0, 0, 0, 0, 0, 0, 0, 0, 0, 0};
     dlm_sizes sizes;
-    if (n == 0 || n > DLM_MOST_ROWS || entries > DLM_MOST_ENTRIES)
+    if (n == 0 || n > DLM_MOST_N || entries > DLM_MOST_ENTRIES || height < n || height > DLM_MOST_HEIGHT)
         return none;
-    sizes = dlm_sizes_by_rows(n, entries);
+    sizes = dlm_sizes_by_rows(n, height, entries);
     if (planned != NULL) {
         sizes.l_subs = planned->l_subscripts;
         sizes.u_subs = planned->u_subscripts;
@@ -424,75 +451,101 @@ static inline dlm_sizes dlm_sizes_for(size_t n, size_t entries, const dlm_counts
     return sizes;
 }
 
+/* The same for a square. */
+static inline dlm_sizes dlm_sizes_for(size_t n, size_t entries, const dlm_counts *planned)
+{
+    return dlm_tall_sizes_for(n, n, entries, planned);
+}
+
 /* ------------------------------------------------------------------ patterns */
 
-/* A pattern in the caller's own stores, whose lengths are n+1 and entries. */
-static inline dlm_pattern dlm_pattern_of(size_t n, const size_t *starts, const size_t *columns, size_t entries)
+/* A pattern of so many rows in the caller's own stores, whose lengths are height+1 and entries. */
+static inline dlm_pattern dlm_tall_pattern_of(size_t n, size_t height, const size_t *starts, const size_t *columns, size_t entries)
 {
     dlm_pattern pattern;
     pattern.n = n;
+    pattern.height = height;
     pattern.starts = starts;
-    pattern.starts_length = n + 1;
+    pattern.starts_length = height + 1;
     pattern.columns = columns;
     pattern.entries = entries;
     return pattern;
 }
 
-/* From compressed rows that count columns from 0: n+1 row starts and `entries` columns, into stores of the same lengths. The order of the
-   columns is kept: a row whose columns do not ascend is refused with 4 in planning, one without its diagonal with 5. */
-static inline dlm_pattern dlm_pattern_from_csr(size_t n, const size_t *csr_starts, const size_t *csr_columns, size_t entries,
-                                               size_t *starts, size_t *columns)
+/* The same for a square: n+1 row starts. */
+static inline dlm_pattern dlm_pattern_of(size_t n, const size_t *starts, const size_t *columns, size_t entries)
+{
+    return dlm_tall_pattern_of(n, n, starts, columns, entries);
+}
+
+/* From compressed rows that count columns from 0: height+1 row starts and `entries` columns, into stores of the same lengths. The order of the
+   columns is kept: a row whose columns do not ascend is refused with 4 in planning, one of the first n without its diagonal with 5. */
+static inline dlm_pattern dlm_tall_pattern_from_csr(size_t n, size_t height, const size_t *csr_starts, const size_t *csr_columns,
+                                                    size_t entries, size_t *starts, size_t *columns)
 {
     size_t place;
-    for (place = 0; place <= n; place++)
+    for (place = 0; place <= height; place++)
         starts[place] = csr_starts[place];
     for (place = 0; place < entries; place++)
         columns[place] = csr_columns[place] + 1; /* the largest size_t turns into 0, which is refused with 3 */
-    return dlm_pattern_of(n, starts, columns, entries);
+    return dlm_tall_pattern_of(n, height, starts, columns, entries);
 }
 
-/* The same from int. A negative start is refused with 2 in planning, a negative column with 3. */
-static inline dlm_pattern dlm_pattern_from_csr_int(size_t n, const int *csr_starts, const int *csr_columns, size_t entries,
-                                                   size_t *starts, size_t *columns)
+/* The same for a square. */
+static inline dlm_pattern dlm_pattern_from_csr(size_t n, const size_t *csr_starts, const size_t *csr_columns, size_t entries,
+                                               size_t *starts, size_t *columns)
+{
+    return dlm_tall_pattern_from_csr(n, n, csr_starts, csr_columns, entries, starts, columns);
+}
+
+/* The same two from int. A negative start is refused with 2 in planning, a negative column with 3. */
+static inline dlm_pattern dlm_tall_pattern_from_csr_int(size_t n, size_t height, const int *csr_starts, const int *csr_columns,
+                                                        size_t entries, size_t *starts, size_t *columns)
 {
     size_t place;
-    for (place = 0; place <= n; place++)
+    for (place = 0; place <= height; place++)
         starts[place] = csr_starts[place] < 0 ? SIZE_MAX : (size_t)csr_starts[place];
     for (place = 0; place < entries; place++)
         columns[place] = csr_columns[place] < 0 ? 0 : (size_t)csr_columns[place] + 1;
-    return dlm_pattern_of(n, starts, columns, entries);
+    return dlm_tall_pattern_of(n, height, starts, columns, entries);
 }
 
-/* Values and right side in the caller's own stores. */
-static inline dlm_system dlm_system_of(const double *values, size_t entries, const double *right, size_t n)
+static inline dlm_pattern dlm_pattern_from_csr_int(size_t n, const int *csr_starts, const int *csr_columns, size_t entries,
+                                                   size_t *starts, size_t *columns)
+{
+    return dlm_tall_pattern_from_csr_int(n, n, csr_starts, csr_columns, entries, starts, columns);
+}
+
+/* Values and right side in the caller's own stores: one for each entry, and one for each row. */
+static inline dlm_system dlm_system_of(const double *values, size_t entries, const double *right, size_t height)
 {
     dlm_system system;
     system.values = values;
     system.values_length = entries;
     system.right = right;
-    system.right_length = n;
+    system.right_length = height;
     return system;
 }
 
 /* ------------------------------------------------------------------ calls */
 
-/* Makes the plan of a pattern. Refuses with 1 to 8. */
+/* Makes the plan of a pattern. Refuses with 1, 25 and 2 to 8. */
 static inline dlm_answer dlm_make_plan(const dlm_pattern *pattern, dlm_plan *plan, dlm_work *work)
 {
-    size_t answer[9] = {0};
-    dalumiveth_plan(DLM_PATTERN(pattern), DLM_PLAN(plan), DLM_WORK(work), answer, 9);
+    size_t answer[2 + DLM_COUNTS] = {0};
+    dalumiveth_plan(DLM_PATTERN(pattern), DLM_PLAN(plan), DLM_WORK(work), answer, 2 + DLM_COUNTS);
     plan->counts = dlm_counts_in(answer + 2);
     return dlm_answer_in(answer);
 }
 
-/* Says whether a plan is this pattern's: no refusal, or 1 to 6 or 9. A plan kept from before subscripts were shared with the end of the whole
+/* Says whether a plan is this pattern's: no refusal, or 1, 25, 2 to 6 or 9. A plan kept from before subscripts were shared with the end of the whole
    store (document 02, ticket 5) is 9 where its lists lie otherwise: plan anew. */
 static inline dlm_answer dlm_verify_plan(const dlm_pattern *pattern, const dlm_plan *plan, dlm_work *work)
 {
     size_t answer[2] = {0};
-    size_t counts[7];
+    size_t counts[DLM_COUNTS];
     dlm_counts_out(&plan->counts, counts);
-    dalumiveth_verify(DLM_PATTERN(pattern), counts, 7, DLM_PLAN(plan), DLM_WORK(work), answer, 2);
+    dalumiveth_verify(DLM_PATTERN(pattern), counts, DLM_COUNTS, DLM_PLAN(plan), DLM_WORK(work), answer, 2);
     return dlm_answer_in(answer);
 }
 
@@ -518,24 +571,25 @@ static inline dlm_answer dlm_run_by(size_t by_list, const dlm_pattern *pattern, 
                                     const size_t *rows, size_t rows_length, dlm_extent extent, dlm_factor *factor, dlm_work *work)
 {
     size_t answer[3] = {0};
-    size_t counts[7];
+    size_t counts[DLM_COUNTS];
     dlm_counts_out(&plan->counts, counts);
-    dalumiveth_run(DLM_PATTERN(pattern), counts, 7, DLM_PLAN(plan), DLM_SYSTEM(system), by_list, DLM_READ_NUMBERS(rows, rows_length),
-                   extent.cut, extent.steps, DLM_FACTOR(factor), DLM_WORK(work), DLM_REALS(work->copy), DLM_REALS(work->dense),
-                   answer, 3);
+    dalumiveth_run(DLM_PATTERN(pattern), counts, DLM_COUNTS, DLM_PLAN(plan), DLM_SYSTEM(system), by_list,
+                   DLM_READ_NUMBERS(rows, rows_length), extent.cut, extent.steps, DLM_FACTOR(factor), DLM_WORK(work),
+                   DLM_REALS(work->copy), DLM_REALS(work->dense), answer, 3);
     factor->updates = answer[2];
     return dlm_answer_in(answer);
 }
 
 /* Eliminates and solves; the pivot row of step k is the row from k on with the largest magnitude in column k, the lowest if equal.
-   One of a magnitude below 2^-1022 is no pivot: 13. Refuses with 1 to 6 and 9 to 14. */
+   One of a magnitude below 2^-1022 is no pivot: 13. Refuses with 1, 25, 2 to 6, 26 and 9 to 14. 26: a pattern with more rows than n is run
+   only when cut, dlm_cut(n) at most. */
 static inline dlm_answer dlm_run_largest(const dlm_pattern *pattern, const dlm_plan *plan, const dlm_system *system, dlm_extent extent,
                                          dlm_factor *factor, dlm_work *work)
 {
     return dlm_run_by(0, pattern, plan, system, NULL, 0, extent, factor, work);
 }
 
-/* The same with the pivot row of step k given as rows[k-1], from k to n; rows_length must be n. */
+/* The same with the pivot row of step k given as rows[k-1], from k to the row count; rows_length must be n. */
 static inline dlm_answer dlm_run_listed(const dlm_pattern *pattern, const dlm_plan *plan, const dlm_system *system, const size_t *rows,
                                         size_t rows_length, dlm_extent extent, dlm_factor *factor, dlm_work *work)
 {
@@ -631,7 +685,7 @@ static inline dlm_offset dlm_write_offset(double value, char *text)
     return dlm_offset_in(answer);
 }
 
-/* ------------------------------------------------------------------ the square's places */
+/* ------------------------------------------------------------------ the places of square and rectangle */
 
 /* Where `wanted` stands in the list of step k on a side: its value slot through `slot` and 1, or 0 if the list does not have it. */
 static inline int dlm_slot_in(const dlm_numbers *subs, const dlm_numbers *starts, const dlm_numbers *slots, size_t k, size_t wanted,
@@ -654,13 +708,12 @@ static inline int dlm_slot_in(const dlm_numbers *subs, const dlm_numbers *starts
     return 0;
 }
 
-/* The number that place (row, column) of the square has after a run, L below the diagonal and U above; the plan is one that was made or
-   verified here. A place without a slot is +0, as is proved of the full square; so is one outside the square. */
+/* The number that place (row, column) of the square, or of the rectangle of all rows and n columns, has after a run, L below the diagonal and U
+   above; the plan is one that was made or verified here. A place without a slot is +0, as is proved of the full one; so is one outside. */
 static inline double dlm_number_at(const dlm_plan *plan, const dlm_factor *factor, size_t row, size_t column)
 {
-    size_t n = plan->counts.n;
     size_t slot = 0;
-    if (row == 0 || column == 0 || row > n || column > n)
+    if (row == 0 || column == 0 || row > plan->counts.height || column > plan->counts.n)
         return 0;
     if (row == column)
         return factor->d.at[row - 1];
@@ -708,7 +761,7 @@ static inline void dlm_reals_free(dlm_reals *store)
 
 static inline void dlm_plan_free(dlm_plan *plan)
 {
-    static const size_t none[7] = {0};
+    static const size_t none[DLM_COUNTS] = {0};
     plan->counts = dlm_counts_in(none);
     dlm_numbers_free(&plan->l_subs);
     dlm_numbers_free(&plan->l_starts);
@@ -721,7 +774,7 @@ static inline void dlm_plan_free(dlm_plan *plan)
 /* Every store is asked for even if one before it failed, so that freeing finds all of them set: hence & and not &&. */
 static inline int dlm_plan_allocate(dlm_plan *plan, const dlm_sizes *sizes)
 {
-    static const size_t none[7] = {0};
+    static const size_t none[DLM_COUNTS] = {0};
     int all = dlm_numbers_allocate(&plan->l_subs, sizes->l_subs) & dlm_numbers_allocate(&plan->l_starts, sizes->l_starts) &
               dlm_numbers_allocate(&plan->l_slots, sizes->l_slots) & dlm_numbers_allocate(&plan->u_subs, sizes->u_subs) &
               dlm_numbers_allocate(&plan->u_starts, sizes->u_starts) & dlm_numbers_allocate(&plan->u_slots, sizes->u_slots);

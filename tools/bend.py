@@ -46,7 +46,7 @@ STAGES = ("own", "table", "proof")
 
 # the tables of a file's own part, where they are not those of its name
 OWN = {"Functions": ["Lists"], "Sets": ["Lists"], "Table": ["Lists"], "Numbers": ["Numbers", "Faint"], "Answer": ["Numbers"], "Square": ["Numbers"], "Text": ["Numbers"],
-       "Plan": ["Plan", "PlanParts"], "PlanParts": [], "Subscripts": ["Plan"], "Slots": ["Plan"], "PlanCall": ["PlanCall", "LentPlan"],
+       "Plan": ["Plan", "PlanParts", "Tall"], "PlanParts": [], "Subscripts": ["Plan"], "Slots": ["Plan"], "Pattern": ["Pattern", "Tall"], "PlanCall": ["PlanCall", "LentPlan", "Tall"], "RunCall": ["RunCall", "Tall"],
        "Reference": ["Reference", "Stopping", "Back", "StepParts", "Faint"], "Facts": [], "Closed": [], "Claims": [], "Marked": [],
        "OffsetReading": ["Offset"], "OffsetRounding": ["Offset"], "OffsetCall": ["Offset"], "Offsets": [], "TallyCalls": ["Tally"], "Tallies": [],
        "Draw": ["Load"], "LoadCall": ["Load"], "Loads": []}

@@ -17,21 +17,22 @@ import struct
 import sys
 
 import cases_limit
+import cases_tall
 from cases_files import write_files
 from cases_patterns import FIELDS, flat, joining, shape, shared_with_earlier, strip_with_steps_between, together
 from cases_steps import joined, sharing_otherwise
 from dense_program import Dense
 
-HEAD = ["most", "n", "starts", "columns",
-        "count_n", "count_entries", "count_l_subs", "count_u_subs", "count_l_slots", "count_u_slots", "count_reads",
+HEAD = ["most", "n", "height", "starts", "columns",
+        "count_n", "count_height", "count_entries", "count_l_subs", "count_u_subs", "count_l_slots", "count_u_slots", "count_reads",
         "l_subs", "l_starts", "l_slots", "u_subs", "u_starts", "u_slots", "rows", "values", "right",
         "by_list", "cut", "steps",
         "lower", "upper", "diagonal", "solution", "pivots",
         "row_heads", "row_links", "set_heads", "set_links", "list", "spare", "copy", "dense"]
 PLAN_STORES = ["l_subs", "l_starts", "l_slots", "u_subs", "u_starts", "u_slots"]
 RESULTS = [("lower", "l_slots"), ("upper", "u_slots"), ("diagonal", "diagonal"), ("solution", "solution"), ("pivots", "pivots")]
-WORK_NEXT = ["row_heads", "row_links", "set_heads", "set_links", "dense"]   # n+1 places
-WORK_N = ["list", "spare", "copy"]                                          # n places
+WORK_NEXT = ["row_heads", "row_links", "set_heads", "set_links", "dense"]   # a place more than there are rows
+WORK_ROWS = ["list", "spare", "copy"]                                       # a place for each row
 SHOWN = 48              # stores that are longer are shown by a sum over their places
 PRIME = 4294967291
 
@@ -62,22 +63,23 @@ class Cases:
         self.answers, self.steps = {}, {13: set(), 14: set()}
         self.otherwise = [0, 0]     # verified and run otherwise without ticket 5
         self.limited = {}           # run otherwise without ticket 14: how often, by list or not, by that answer's number
+        self.above = {"pivot row": 0, "row n": 0}     # finished runs with a pivot row above n, and those whose row n is exchanged with one
         self.finished = {(a, b): 0 for a in ("largest", "listed") for b in ("whole", "cut")}
 
-    def request(self, most, n, starts, columns, counts, stores, values, right, listed, cut, lengths, work):
-        head = {"most": most, "n": n, "by_list": int(listed is not None), "cut": int(cut is not None), "steps": cut or 0}
+    def request(self, most, n, height, starts, columns, counts, stores, values, right, listed, cut, lengths, work):
+        head = {"most": most, "n": n, "height": height, "by_list": int(listed is not None), "cut": int(cut is not None), "steps": cut or 0}
         head.update({"starts": len(starts), "columns": len(columns), "rows": len(listed or []), "values": len(values), "right": len(right)})
         head.update({name: len(stores[name]) for name in PLAN_STORES})
-        head.update({key: value for key, value in zip(HEAD[4:11], counts)})
+        head.update({key: value for key, value in zip(HEAD[5:13], counts)})
         head.update({name: lengths[key] for name, key in RESULTS})
         head.update(work)
         self.bytes += struct.pack(f"<{len(HEAD)}I", *[head[name] for name in HEAD])
         for numbers in [starts, columns] + [stores[name] for name in PLAN_STORES] + [listed or []]:
             self.bytes += struct.pack(f"<{len(numbers)}H", *numbers)
         self.bytes += struct.pack(f"<{len(values)}d", *values) + struct.pack(f"<{len(right)}d", *right)
-        fixed = [(work[name], n + 1) for name in WORK_NEXT] + [(work[name], n) for name in WORK_N]
-        planning = [pair for name, pair in zip(WORK_NEXT + WORK_N, fixed) if name not in ("copy", "dense")]
-        asked = most, n, starts, columns, counts, stores
+        fixed = [(work[name], height + 1) for name in WORK_NEXT] + [(work[name], height) for name in WORK_ROWS]
+        planning = [pair for name, pair in zip(WORK_NEXT + WORK_ROWS, fixed) if name not in ("copy", "dense")]
+        asked = most, n, height, starts, columns, counts, stores
         held = self.dense.hold_call(*asked, planning)
         self.lines.append("verify agrees" if held[0] == "granted" else "verify " + refusal(held))
         asked_run = *asked, fixed, values, right, listed, cut, lengths
@@ -88,6 +90,8 @@ class Cases:
         if called.answer[0] == "granted":
             self.lines.append(f"run finished {called.answer[1]}")
             self.finished["largest" if listed is None else "listed", "whole" if cut is None else "cut"] += 1
+            self.above["pivot row"] += max(called.stores["pivots"]) > n
+            self.above["row n"] += called.stores["pivots"][-1] > n
         else:
             self.lines.append("run " + refusal(called.answer))
             number = called.answer[1]
@@ -110,15 +114,16 @@ class Cases:
             kind = "largest" if listed is None else "listed", 0 if before[0] == "granted" else before[1]
             self.limited[kind] = self.limited.get(kind, 0) + 1
 
-    def run(self, rows, values, right, listed=None, cut=None, most=1024, more=None, bend=None, lent=None):
-        """A run on the pattern's own plan. `more` gives lengths by name, `bend` changes the lent plan (counts, stores), `lent` the pattern (n, starts, columns)."""
-        n = len(rows)
+    def run(self, rows, values, right, listed=None, cut=None, most=1024, more=None, bend=None, lent=None, n=None):
+        """A run on the plan of a pattern with so many rows and as many columns, or n. `more` gives lengths by name, `bend` changes the lent plan (counts,
+        stores), `lent` the pattern (starts, columns): it gives n and the row count too."""
+        n, height = n or len(rows), len(rows)
         starts, columns = flat(rows)
-        plan = self.dense.plan(rows)
+        plan = self.dense.plan(rows, n=n)
         counts, stores = self.dense.counts_of(plan), self.dense.stores_of(plan)
-        lengths = {"l_slots": plan.l_side.slots(), "u_slots": plan.u_side.slots(), "diagonal": n, "solution": n, "pivots": n}
-        work = {name: n + 1 for name in WORK_NEXT}
-        work.update({name: n for name in WORK_N})
+        lengths = {"l_slots": plan.l_side.slots(), "u_slots": plan.u_side.slots(), "diagonal": n, "solution": height, "pivots": n}
+        work = {name: height + 1 for name in WORK_NEXT}
+        work.update({name: height for name in WORK_ROWS})
         for name, length in (more or {}).items():
             key = dict(RESULTS).get(name)
             if key:
@@ -128,8 +133,8 @@ class Cases:
         if bend:
             bend(counts, stores)
         if lent:
-            n, starts, columns = lent(n, starts, columns)
-        return self.request(most, n, starts, columns, counts, stores, values, right, listed, cut, lengths, work)
+            n, height, starts, columns = lent(starts, columns)
+        return self.request(most, n, height, starts, columns, counts, stores, values, right, listed, cut, lengths, work)
 
 
 # ------------------------------------------------------------------ patterns and values
@@ -220,22 +225,22 @@ def add_refused(cases, rng):
     cases.run(*plain, most=3)                                                                         # 1
     cases.run(*plain, most=0)
     cases.run(*plain, most=65535)
-    cases.run(*plain, lent=lambda n, s, c: (0, s, c))
-    cases.run(*plain, lent=lambda n, s, c: (1025, s, c))
-    cases.run(*plain, lent=lambda n, s, c: (4, s[:-1], c))                                            # 2
-    cases.run(*plain, lent=lambda n, s, c: (4, [0, 2, 4, 3, 9], c))
-    cases.run(*plain, lent=lambda n, s, c: (4, [1] + s[1:], c))
-    cases.run(*plain, lent=lambda n, s, c: (4, s, c[:-1] + [5]))                                      # 3
-    cases.run(*plain, lent=lambda n, s, c: (4, s, [0] + c[1:]))
-    cases.run(*plain, lent=lambda n, s, c: (4, s, c[:6] + [2, 2, 4]))                                 # 4
-    cases.run(*plain, lent=lambda n, s, c: (4, s, [2, 3] + c[2:]))                                    # 5
-    for name in WORK_NEXT + WORK_N:                                                                   # 6
+    cases.run(*plain, lent=lambda s, c: (0, 0, s, c))
+    cases.run(*plain, lent=lambda s, c: (1025, 1025, s, c))
+    cases.run(*plain, lent=lambda s, c: (4, 4, s[:-1], c))                                            # 2
+    cases.run(*plain, lent=lambda s, c: (4, 4, [0, 2, 4, 3, 9], c))
+    cases.run(*plain, lent=lambda s, c: (4, 4, [1] + s[1:], c))
+    cases.run(*plain, lent=lambda s, c: (4, 4, s, c[:-1] + [5]))                                      # 3
+    cases.run(*plain, lent=lambda s, c: (4, 4, s, [0] + c[1:]))
+    cases.run(*plain, lent=lambda s, c: (4, 4, s, c[:6] + [2, 2, 4]))                                 # 4
+    cases.run(*plain, lent=lambda s, c: (4, 4, s, [2, 3] + c[2:]))                                    # 5
+    for name in WORK_NEXT + WORK_ROWS:                                                                # 6
         for change in (-1, 1):
             cases.run(*plain, more={name: change})
     for name in ("l_starts", "l_slots", "u_starts", "u_slots"):
         cases.run(*plain, bend=lambda counts, stores, name=name: stores[name].append(0))
         cases.run(*plain, bend=lambda counts, stores, name=name: stores[name].pop())
-    for at in range(7):                                                                               # 9
+    for at in range(8):                                                                               # 9
         for change in (-1, 1):
             def count(counts, stores):
                 counts[at] += change
@@ -249,7 +254,7 @@ def add_refused(cases, rng):
     cases.run(*plain, bend=lambda counts, stores: stores["u_subs"].pop())
     cases.run(*plain, bend=lambda counts, stores: stores["u_subs"].append(9))                         # an unused subscript
     def other(counts, stores):
-        counts[6] += 1
+        counts[7] += 1
     cases.run(*plain, bend=other, more={"dense": 1})                                                  # 6 before 9
     cases.run(FIELDS, FIELD_VALUES[:-1], FIELD_RIGHT, bend=other)                                     # 9 before 10
     for values, right in ((FIELD_VALUES[:-1], FIELD_RIGHT), (FIELD_VALUES + [1.0], FIELD_RIGHT), (FIELD_VALUES, FIELD_RIGHT[:-1]), (FIELD_VALUES, FIELD_RIGHT + [1.0])):
@@ -295,14 +300,14 @@ def add_large(cases, rng):
 
 PLACES = ("nothing", "behind", "before", "between", "end")      # what `joined` says of a side
 CHANGED = ("start", "subscript", "slot start")
+COUNTS = (0, 2, 3, 4, 5, 6, 7)                                  # a plan's counts but the row count, which `add_refused` and `add_tall_plans` change
 TIMES = 3                                                       # how often each pair of places is to occur
 
 
-def list_to_follow(cases, rng, rows):
+def list_to_follow(cases, rng, rows, n=None):
     """A row list with which a run finishes, other than the one by the largest entry: that of other values on the same pattern."""
-    n = len(rows)
-    values, right = numbers(rng, entries(rows), "plain"), numbers(rng, n, "plain")
-    return cases.dense.pivot_rows(rows, values, right)
+    values, right = numbers(rng, entries(rows), "plain"), numbers(rng, len(rows), "plain")
+    return cases.dense.pivot_rows(rows, values, right, n)
 
 
 def move(numbers, at, change):
@@ -336,23 +341,23 @@ def change_count(at, change):
     return bend
 
 
-def agreed_with(cases, rng, rows, step, turn):
-    """A pattern's own plan, and a run: by the largest entry or by a list, whole or cut (before the step, behind it, at n), in turn."""
-    listed = list_to_follow(cases, rng, rows) if turn % 2 else None
-    cut = rng.choice((step - 1, step, len(rows))) if turn % 4 > 1 else None
+def agreed_with(cases, rng, rows, step, turn, n=None):
+    """A pattern's own plan, and a run: by the largest entry or by a list, whole or cut (before the step, behind it, at n), in turn; a tall pattern's is always cut."""
+    listed = list_to_follow(cases, rng, rows, n) if turn % 2 else None
+    cut = rng.choice((step - 1, step, n or len(rows))) if turn % 4 > 1 or n else None
     values, right = numbers(rng, entries(rows), "plain"), numbers(rng, len(rows), "plain")
-    assert cases.run(rows, values, right, listed, cut)[0] == "granted"
+    assert cases.run(rows, values, right, listed, cut, n=n)[0] == "granted"
 
 
-def changed_at(cases, rng, rows, step, side, sign, count):
+def changed_at(cases, rng, rows, step, side, sign, count, n=None):
     """The plan with one number changed at the step: one of each kind, L and U and raised and lowered in turn (`side` and `sign` say what is
     first), and one of the counts."""
     values, right = numbers(rng, entries(rows), "plain"), numbers(rng, len(rows), "plain")
-    bends = [change_count(count % 7, (-1, 1)[sign % 2])]
+    bends = [change_count(COUNTS[count % len(COUNTS)], (-1, 1)[sign % 2])]
     for at, kind in enumerate(CHANGED):
         bends.append(change_store(rng, kind, "lu"[(side + at) % 2], step, (-1, 1)[(sign + at) % 2]))
     for bend in bends:
-        assert cases.run(rows, values, right, bend=bend) == ("refused", 9, 0)
+        assert cases.run(rows, values, right, cut=n, bend=bend, n=n) == ("refused", 9, 0)
 
 
 def add_joined(cases, rng):
@@ -389,10 +394,10 @@ def add_together(cases, rng):
 
 # ------------------------------------------------------- plans without ticket 5
 
-def lent_from(dense, rows, *names):
+def lent_from(dense, rows, *names, n=None):
     """Puts the named parts of the plan that a program makes into the lent one: "counts", or stores."""
     def bend(counts, stores):
-        plan = dense.plan(rows)
+        plan = dense.plan(rows, n=n)
         made = dense.stores_of(plan)
         for name in names:
             if name == "counts":
@@ -418,7 +423,7 @@ def add_plans_before_5(cases, rng):
         for names in (["counts", *PLAN_STORES], PLAN_STORES, ["counts"], *starts):
             assert lent(*names) == ("refused", 9, 0)
         if turn % 4 == 0:
-            assert lent("counts", *PLAN_STORES, more={WORK_N[turn // 4 % 3]: 1}) == ("refused", 6, 0)
+            assert lent("counts", *PLAN_STORES, more={WORK_ROWS[turn // 4 % 3]: 1}) == ("refused", 6, 0)
             assert lent("counts", *PLAN_STORES, values=values[:-1]) == ("refused", 9, 0)
             assert lent(values=values[:-1]) == ("refused", 10, 0)
     return cases.count - before
@@ -434,6 +439,152 @@ def add_around_limit(cases, rng):
     return cases.count - before, sum(cases.limited.values()) - stopped
 
 
+# ------------------------------------------------------- more rows than columns
+
+# four fields and three rows above n, the last one empty
+TALL = cases_tall.over(FIELDS, [[1, 4], [3], []])
+TALL_VALUES = FIELD_VALUES + [3.0, -1.0, 5.0]
+TALL_RIGHT = FIELD_RIGHT + [-1.0, 4.0, 0.5]
+TALL_HEIGHT = len(TALL.rows)
+
+
+def tall_run(cases, listed=None, cut=4, values=TALL_VALUES, right=TALL_RIGHT, **other):
+    """A run of the seven rows above; the answer's number, 0 where it finishes."""
+    answer = cases.run(TALL.rows, values, right, listed, cut, n=4, **other)
+    return 0 if answer[0] == "granted" else answer[1]
+
+
+def add_tall_systems(cases, rng):
+    """Systems whose pivot rows reach above n, or cannot; then small patterns with every kind of value, each cut after any number of steps."""
+    for turn, (n, *asked) in enumerate(cases_tall.systems(rng)):
+        cases.run(*asked, more={"lower": turn % 3, "upper": turn // 3 % 2}, n=n)
+    for turn in range(240):
+        pattern = cases_tall.drawn(rng)
+        kind = ("plain", "small", "zeros", "tiny", "huge", "special")[turn % 6]
+        values, right = numbers(rng, entries(pattern.rows), kind), numbers(rng, len(pattern.rows), rng.choice([kind, "plain"]))
+        listed = cases_tall.any_rows(rng, pattern) if turn % 4 == 1 else list_to_follow(cases, rng, pattern.rows, pattern.n) if turn % 4 == 3 else None
+        cases.run(pattern.rows, values, right, listed, rng.randint(0, pattern.n), n=pattern.n)
+
+
+def add_tall_large(cases, rng):
+    """2,048 rows, by the largest entry and by a list with which a run finishes."""
+    for n, rows in cases_tall.most_rows(rng):
+        values, right = numbers(rng, entries(rows), "plain"), numbers(rng, len(rows), "plain")
+        cases.run(rows, values, right, cut=n, n=n)
+        if n < 1024:
+            cases.run(rows, values, right, list_to_follow(cases, rng, rows, n), rng.randint(1, n), n=n)
+        if n < 8:
+            cases.run(rows, values, right, [len(rows)] * n, n, n=n)
+            assert cases.run(rows, values, right, n=n) == ("refused", 26, 0)
+
+
+def add_26(cases):
+    """Whole runs of more rows than columns: before 9 and what follows it, after 1, 25, 2 to 6."""
+    def whole(**other):
+        return tall_run(cases, cut=None, **other)
+
+    def other_plan(counts, stores):
+        counts[7] += 1
+
+    for listed in (None, [1, 2, 3, 4], [5, 6, 7, 7]):
+        assert whole(listed=listed) == 26
+        assert tall_run(cases, listed) in (0, 13)                                                     # cut at n it is none
+    for at in range(8):                                                                               # before 9
+        assert whole(bend=change_count(at, 1)) == 26
+    for name in PLAN_STORES:
+        assert whole(bend=lambda counts, stores: move(stores[name], 0, 1)) == 26
+    assert whole(values=TALL_VALUES[1:]) == whole(right=FIELD_RIGHT) == whole(more={"pivots": 3}) == whole(more={"lower": -1}) == 26     # before 10
+    assert whole(values=[math.nan] * 12) == whole(right=[math.inf] * 7) == whole(listed=[8, 8, 8, 8]) == whole(values=[0.0] * 12) == 26  # before 11 to 13
+    for name in WORK_NEXT + WORK_ROWS:                                                                # after 6
+        assert whole(more={name: -3}, bend=other_plan) == whole(more={name: 1}) == 6
+    for name in ("l_starts", "l_slots", "u_starts", "u_slots"):
+        assert whole(bend=lambda counts, stores: stores[name].append(0)) == 6
+    for number, most, lent in faulty_tall():
+        assert whole(most=most, lent=lent) == whole(most=most, lent=lent, bend=other_plan) == number
+
+
+def faulty_tall():
+    """Faults of the seven rows' pattern, each with the largest n that is taken: 1, 25, 2 to 5."""
+    yield 1, 3, lambda s, c: (4, 7, s, c)
+    yield 1, 1024, lambda s, c: (0, 7, s, c)
+    yield 1, 1024, lambda s, c: (1025, 7, s, c)
+    yield 25, 1024, lambda s, c: (4, 3, s, c)
+    yield 25, 1024, lambda s, c: (4, 2049, s, c)
+    yield 25, 1024, lambda s, c: (8, 7, s, c)
+    yield 2, 1024, lambda s, c: (4, 7, s[:-1], c)
+    yield 2, 1024, lambda s, c: (4, 7, s[:5], c)
+    yield 2, 1024, lambda s, c: (4, 6, s, c)
+    yield 2, 1024, lambda s, c: (4, 8, s, c)
+    yield 3, 1024, lambda s, c: (4, 7, s, c[:-1] + [6])
+    yield 3, 1024, lambda s, c: (4, 7, s, c[:-1] + [0])
+    yield 4, 1024, lambda s, c: (4, 7, s, c[:9] + [4, 4, 3])
+    yield 5, 1024, lambda s, c: (4, 7, s, c[:6] + [1, 2, 3] + c[9:])
+
+
+def add_tall_refused(cases):
+    """Cut runs: 1, 25 and 2 to 6, and 10 to 12 by the row count or by n."""
+    for number, most, lent in faulty_tall():
+        assert tall_run(cases, most=most, lent=lent) == number
+    for name in WORK_NEXT + WORK_ROWS:                                                                # 6: for n rows, and by one place
+        for change in (4 - TALL_HEIGHT, -1, 1):
+            assert tall_run(cases, more={name: change}) == 6
+    for values in (TALL_VALUES[:-1], TALL_VALUES + [1.0], FIELD_VALUES):                              # 10
+        assert tall_run(cases, values=values) == 10
+    for right in (FIELD_RIGHT, TALL_RIGHT[:-1], TALL_RIGHT + [1.0], []):
+        assert tall_run(cases, right=right) == 10
+    for name, changes in (("solution", (-3, -1, 1)), ("pivots", (3, -1, 1)), ("diagonal", (3, -1, 1)), ("lower", (-1, -5)), ("upper", (-1, -4))):
+        for change in changes:
+            assert tall_run(cases, more={name: change}) == 10
+    assert tall_run(cases, right=[math.nan] * 4) == 10                                                # before 11
+    for bad in (math.inf, -math.inf, math.nan):                                                       # 11, above n
+        assert tall_run(cases, values=TALL_VALUES[:-1] + [bad]) == 11
+        for at in (4, 6):
+            assert tall_run(cases, right=TALL_RIGHT[:at] + [bad] + TALL_RIGHT[at + 1:]) == 11
+    assert tall_run(cases, [9, 9], 9, values=[math.nan] * 12) == 11                                   # before 12
+    for k in range(4):                                                                                # 12 by the row count
+        for p, number in ((TALL_HEIGHT, 0), (TALL_HEIGHT + 1, 12), (k, 12), (65535, 12)):
+            found = tall_run(cases, [1, 2, 3, 4][:k] + [p] + [1, 2, 3, 4][k + 1:], k)                 # the step is not run
+            assert found == number
+    for length in (0, 3, 5, TALL_HEIGHT, TALL_HEIGHT + 1):                                            # by n: the list's length, and s
+        assert tall_run(cases, [1, 2, 3, 4, 5, 6, 7, 8][:length]) == 12
+    for cut in (5, TALL_HEIGHT, TALL_HEIGHT + 1, 65535):
+        assert tall_run(cases, None, cut) == tall_run(cases, [1, 2, 3, 4], cut) == 12
+    assert tall_run(cases, [1, 2, 3, 8], values=[0.0] * 12) == 12                                     # before 13
+
+
+def add_tall_plans(cases, rng):
+    """9: another row count, the plan of the square or of one row more, and one number changed at a step whose L has rows above n."""
+    for change in (-1, 1, 4 - TALL_HEIGHT, 2048):
+        assert tall_run(cases, bend=change_count(1, change)) == 9
+    for rows, n in ((FIELDS, 4), (TALL.rows + [[]], 4), (TALL.rows + [[2]], 4), (TALL.rows[:-1], 4)):
+        for names in (["counts", *PLAN_STORES], ["counts"]):
+            assert tall_run(cases, bend=lent_from(cases.dense, rows, *names, n=n)) == 9
+    assert tall_run(cases, bend=lent_from(cases.dense, TALL.rows + [[]], *PLAN_STORES, n=4)) == 0    # an empty row changes its count alone
+    assert tall_run(cases, bend=change_count(1, 1), right=FIELD_RIGHT) == 9                           # before 10
+    assert tall_run(cases, bend=change_count(1, 1), more={"copy": -3}) == 6
+    turn = 0
+    while turn < 24:
+        pattern = cases_tall.drawn(rng)
+        plan = cases.dense.plan(pattern.rows, n=pattern.n)
+        steps = [k for k in range(1, pattern.n + 1) if plan.u_side.kept[k] and any(i > pattern.n for i in plan.l_side.kept[k])]
+        if steps:
+            agreed_with(cases, rng, pattern.rows, steps[0], turn, pattern.n)
+            changed_at(cases, rng, pattern.rows, rng.choice(steps), turn, turn // 2, turn, pattern.n)
+            turn += 1
+
+
+def add_tall(cases, rng):
+    """All of them; how many, and what they reach."""
+    before, finished, answers = cases.count, sum(cases.finished.values()), dict(cases.answers)
+    add_tall_systems(cases, rng)
+    add_tall_large(cases, rng)
+    add_26(cases)
+    add_tall_refused(cases)
+    add_tall_plans(cases, rng)
+    reached = {number: count - answers.get(number, 0) for number, count in sorted(cases.answers.items()) if count > answers.get(number, 0)}
+    return f"{cases.count - before}, finished {sum(cases.finished.values()) - finished}, refused {reached}"
+
+
 def main():
     if len(sys.argv) != 2:
         raise SystemExit(__doc__)
@@ -447,12 +598,13 @@ def main():
     add_together(cases, rng)
     plans = add_plans_before_5(cases, random.Random(19841986))
     around, stopped = add_around_limit(cases, random.Random(19841987))
+    more_rows = add_tall(cases, random.Random(19841988))
     write_files("cases_elimination", cases.bytes, "\n".join(cases.lines) + "\n")
     print(f"{cases.count} requests; finished {cases.finished}; refused {dict(sorted(cases.answers.items()))}; "
           f"steps of 13 {sorted(cases.steps[13])}, of 14 {sorted(cases.steps[14])}; "
           f"{len(sides)} pairs of what a row is to L and to U, each at {min(sides.values())} steps; "
           f"with plans without ticket 5: {plans}; by it verified otherwise {cases.otherwise[0]}, run otherwise {cases.otherwise[1]}; "
-          f"around the limit: {around}, of which {stopped} run otherwise without ticket 14; of all, by the number without it {dict(sorted(cases.limited.items()))}")
+          f"with more rows than columns: {more_rows}, reaching above n {cases.above}; around the limit: {around}, of which {stopped} run otherwise without ticket 14; of all, by the number without it {dict(sorted(cases.limited.items()))}")
 
 
 if __name__ == "__main__":

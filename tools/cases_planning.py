@@ -8,18 +8,21 @@ for (dense_program.py). Every expected number comes from it; what is added here 
 the layout of the lent stores. The files stdin and stdout of the crate are written
 anew; the seeds are fixed, so that they come out the same each time.
 
-A request is words of two bytes, low byte first: most, n, the lengths of the row
-starts, the columns and the stores (STORES below, in that order), then the row
-starts and the columns.
+A request is words of two bytes, low byte first: most, n, the row count, the
+lengths of the row starts, the columns and the stores (STORES below, in that order),
+then the row starts and the columns.
 """
+import itertools
 import random
 import struct
 import sys
 
+import cases_tall
 from cases_files import write_files
 from cases_patterns import (FIELDS, chained, fixed_shapes, flat, grid, joining, near_strip, shape, shared_with_earlier, sparse, strip_with_steps_between,
                             together)
-from cases_steps import joined, may_miss_end, sharing_otherwise, store_sizes, ways
+from cases_steps import (HANDED_ON_TO_NONE, handed_on_to_none, joined, joined_above, may_miss_end, sharing_otherwise, store_sizes,
+                         ways)
 from dense_program import Dense
 
 RESULTS = ["l_subs", "l_starts", "l_slots", "u_subs", "u_starts", "u_slots"]
@@ -40,16 +43,16 @@ class Cases:
 
     # ---- what is expected
 
-    def right_lengths(self, n):
-        """The lengths that docs/ fixes, but for the subscript stores."""
-        return {name: n if name in ("l_starts", "u_starts", "list", "spare") else n + 1
+    def right_lengths(self, n, height):
+        """The lengths that docs/ fixes, but for the subscript stores: by n for those of the plan, by the row count for the work stores."""
+        return {name: (n if name in RESULTS else height) + (name not in ("l_starts", "u_starts", "list", "spare"))
                 for name in STORES[2:]}
 
-    def expected(self, most, n, starts, columns, lengths):
+    def expected(self, most, n, height, starts, columns, lengths):
         """The answer's line and the contents of each result store."""
         results = {name: lengths[name] for name in RESULTS}
-        work = [(lengths[name], size) for name, size in self.right_lengths(n).items() if name not in RESULTS]
-        called, alone = (program.plan_call(most, n, starts, columns, results, work) for program in (self.dense, self.document_01))
+        work = [(lengths[name], size) for name, size in self.right_lengths(n, height).items() if name not in RESULTS]
+        called, alone = (program.plan_call(most, n, height, starts, columns, results, work) for program in (self.dense, self.document_01))
         if called != alone:
             numbers = number_of(alone.answer), number_of(called.answer)
             self.changed[numbers] = self.changed.get(numbers, 0) + 1
@@ -66,33 +69,43 @@ class Cases:
 
     # ---- cases
 
-    def raw(self, most, n, starts, columns, l_room, u_room, **other):
-        """A request as it stands; `other` gives stores another length than the right one."""
-        lengths = dict(self.right_lengths(n), l_subs=l_room, u_subs=u_room)
+    def raw(self, most, n, starts, columns, l_room, u_room, height=None, **other):
+        """A request as it stands, of n rows if no row count is given; `other` gives stores another length than the right one."""
+        height = n if height is None else height
+        lengths = dict(self.right_lengths(n, height), l_subs=l_room, u_subs=u_room)
         lengths.update(other)
-        self.words += [most, n, len(starts), len(columns)]
+        self.words += [most, n, height, len(starts), len(columns)]
         self.words += [lengths[name] for name in STORES] + starts + columns
-        line, stores = self.expected(most, n, starts, columns, lengths)
+        line, stores = self.expected(most, n, height, starts, columns, lengths)
         self.lines.append(line)
         self.lines += [" ".join([name] + list(map(str, stores[name]))) for name in RESULTS]
         self.lines.append("work zero")
         self.count += 1
         return line
 
-    def rooms(self, rows):
-        """How many subscripts each side of a plan takes."""
-        plan = self.dense.plan(rows)
-        return len(plan.l_side.store), len(plan.u_side.store)
+    def rooms(self, rows, n=None):
+        return rooms_by(self.dense, rows, n)
 
-    def plan(self, rows, l_more=0, u_more=0, most=1024, **other):
-        """A pattern by its rows, with rooms that are larger than needed by so much (or smaller)."""
-        l_room, u_room = self.rooms(rows)
+    def plan(self, rows, l_more=0, u_more=0, most=1024, n=None, **other):
+        """A pattern by its rows, with as many columns or n, and with rooms that are larger than needed by so much (or smaller)."""
+        l_room, u_room = self.rooms(rows, n)
         starts, columns = flat(rows)
-        return self.raw(most, len(rows), starts, columns, max(0, l_room + l_more), max(0, u_room + u_more), **other)
+        return self.raw(most, n or len(rows), starts, columns, max(0, l_room + l_more), max(0, u_room + u_more), len(rows), **other)
+
+
+def rooms_by(dense, rows, n=None):
+    """How many subscripts each side of a plan takes."""
+    plan = dense.plan(rows, n=n)
+    return len(plan.l_side.store), len(plan.u_side.store)
 
 
 def number_of(answer):
     return 0 if answer[0] == "granted" else answer[1]
+
+
+def number_in(line):
+    """The number in an answer's line."""
+    return int(line.split()[1]) if line.startswith("refused") else 0
 
 
 # ------------------------------------------------------- groups of requests
@@ -148,17 +161,16 @@ def short_ways(cases, rng):
     return count
 
 
-def short_at(cases, rows, step):
+def short_at(cases, rows, step, n=None):
     """Rooms that end with one step: exactly enough for it, and one short for a side to which it adds."""
-    n = len(rows)
-    starts, columns = flat(rows)
-    plan = cases.dense.plan(rows)
+    plan = cases.dense.plan(rows, n=n)
+    asked = 1024, plan.n, *flat(rows)
     lower, upper = store_sizes(plan, plan.l_side), store_sizes(plan, plan.u_side)
-    cases.raw(1024, n, starts, columns, lower[step], upper[step])
+    cases.raw(*asked, lower[step], upper[step], len(rows))
     if lower[step - 1] < lower[step]:
-        assert cases.raw(1024, n, starts, columns, lower[step] - 1, upper[n]) == f"refused 7 {step}"
+        assert cases.raw(*asked, lower[step] - 1, upper[plan.n], len(rows)) == f"refused 7 {step}"
     if upper[step - 1] < upper[step]:
-        assert cases.raw(1024, n, starts, columns, lower[n], upper[step] - 1) == f"refused 8 {step}"
+        assert cases.raw(*asked, lower[plan.n], upper[step] - 1, len(rows)) == f"refused 8 {step}"
 
 
 def met_together(cases, rng):
@@ -218,8 +230,7 @@ def ends_shared(cases, rng):
     first patterns, which have every kind, also rooms as document 01 alone needs them, and rooms that end with the step."""
     before = cases.count
     for number, (rows, ended) in enumerate(sharing_otherwise(cases.dense, rng, 12, 220)):
-        alone = cases.document_01.plan(rows)
-        (l_room, u_room), l_alone, u_alone = cases.rooms(rows), len(alone.l_side.store), len(alone.u_side.store)
+        (l_room, u_room), (l_alone, u_alone) = cases.rooms(rows), rooms_by(cases.document_01, rows)
         cases.plan(rows)
         if l_room < l_alone:
             cases.plan(rows, -1, 0)
@@ -333,7 +344,7 @@ def refused_1_to_5(cases):
 def refused_6(cases):
     for rows in (FIELDS, [[1]], shape(7, lambda i, j: i == 7 or j == 1)):
         n = len(rows)
-        right = cases.right_lengths(n)
+        right = cases.right_lengths(n, n)
         for name in STORES[2:]:
             cases.plan(rows, **{name: right[name] - 1})
             cases.plan(rows, **{name: right[name] + 1})
@@ -377,6 +388,179 @@ def orders(cases, rng):
             assert line == (f"refused 8 {eight}" if kind == "8 first" else f"refused 7 {seven}")
 
 
+# ------------------------------------------------------- more rows than columns
+
+def tall_planned(cases, rng):
+    """Row counts n+1, 2n and others, to 2,048; rows above n that are empty, again those of the square, or with their least column anywhere."""
+    for turn, (n, rows) in enumerate(itertools.chain(cases_tall.named(rng), cases_tall.columns_alone(6), (cases_tall.drawn(rng) for _ in range(60)))):
+        cases.plan(rows, (0, 1, 5)[turn % 3], (0, 2)[turn % 2], n=n)
+    for turn, (n, rows) in enumerate(cases_tall.most_rows(rng)):
+        cases.plan(rows, n=n)
+        cases.plan(rows, -(turn % 2), turn % 2 - 1, most=n, n=n)
+
+
+def tall_handed_on(cases, rng):
+    """Steps that hand L_k on to none, since U_k has no further member, of every kind and before the last step too; with rooms that end there."""
+    count = {(kind, last): 0 for kind in HANDED_ON_TO_NONE for last in (False, True)}
+    while min(count.values()) < 4:
+        n, rows = cases_tall.drawn(rng)
+        for step, *kind in handed_on_to_none(cases.dense.plan(rows, n=n), rows):
+            if count[tuple(kind)] < 4:
+                count[tuple(kind)] += 1
+                cases.plan(rows, n=n)
+                short_at(cases, rows, step, n)
+    return count
+
+
+def tall_rooms(cases, rng):
+    """Every pair of rooms for small patterns, then rooms that end at steps that put rows above n into the store of L."""
+    for n, rows in (cases_tall.seen_again(FIELDS, 3), cases_tall.over([[1, 2], [1, 2]], [[1], [], [1, 2]]), cases_tall.over([[1], [2, 3], [3]], [[1, 3], [2], [1, 2, 3]])):
+        l_room, u_room = cases.rooms(rows, n)
+        for l_lent, u_lent in itertools.product(range(l_room + 2), range(u_room + 2)):
+            cases.raw(1024, n, *flat(rows), l_lent, u_lent, len(rows))
+    found = 0
+    while found < 80:
+        n, rows = cases_tall.drawn(rng)
+        plan = cases.dense.plan(rows, n=n)
+        sizes = store_sizes(plan, plan.l_side)
+        steps = [k for k in range(1, n + 1) if any(i > n for i in plan.l_side.store[sizes[k - 1]:sizes[k]])]
+        if steps:
+            found += 1
+            short_at(cases, rows, rng.choice(steps), n)
+    return found
+
+
+def tall_side_by_side(cases, rng):
+    """Steps at which one row above n joins the list of the step before, for every pair of what it is to L and to U; with rooms that end there."""
+    places = ("behind", "before", "between", "end")
+    count = {(lower, upper): 0 for lower in places for upper in ("nothing", *places)}
+    while min(count.values()) < 3:
+        for n, rows in cases_tall.with_rows_joining(rng):
+            for found in joined_above(cases.dense, rows, n):
+                if count[found.sides] < 3:
+                    count[found.sides] += 1
+                    short_at(cases, rows, found.step, n)
+    return count
+
+
+def refused_25(cases):
+    """Fewer rows than n, or above 2,048: before 2 to 6 and after 1, with row starts for that many rows, for n, and for none."""
+    starts, columns = flat(FIELDS)
+
+    def pattern(n, height, starts, columns=columns, number=25, most=1024, **other):
+        lengths = dict(cases.right_lengths(n, min(height, 2050)), **other)
+        assert cases.raw(most, n, starts, columns, 5, 4, height, **lengths) == f"refused {number} 0"
+
+    for height in (0, 1, 3, 2049, 2050, 65535):
+        for lent in (starts, (starts + [9] * 2046)[:height + 1], []):
+            pattern(4, height, lent)
+        pattern(4, height, starts, columns[:6])
+        pattern(4, height, [0, 2, 4, 3, 9])                             # before 2
+        pattern(4, height, starts, [0] + columns[1:])                   # before 3
+        pattern(4, height, starts, [3, 1] + columns[2:])                # before 4
+        pattern(4, height, starts, [2] + columns[1:])                   # before 5
+        pattern(4, height, starts, l_starts=3, u_slots=6, list=4, spare=5)  # before 6
+        pattern(4, height, starts, number=1, most=3)                    # after 1
+        pattern(0, height, starts, number=1)
+        pattern(1025, height, starts, number=1)
+    pattern(4, 2049, starts, [1] * 16385, number=1)
+    for height in (0, 1023, 2049):
+        pattern(1024, height, [*range(1025)], [*range(1, 1025)])
+    pattern(1, 0, [0, 1], [1])
+    pattern(1, 0, [0], [])
+
+
+def tall_refused(cases, number, starts, columns, height, **other):
+    """Four columns and so many rows: the request is to be answered with this number."""
+    lengths = dict(cases.right_lengths(4, height), **other)
+    assert number_in(cases.raw(1024, 4, starts, columns, 20, 20, height, **lengths)) == number
+
+
+def tall_refused_2(cases):
+    """Four fields and three rows above n, the last one empty: faults in the row starts."""
+    starts, columns = flat(FIELDS + [[1, 4], [3], []])
+
+    def pattern(number, starts, columns=columns, height=7, **other):
+        tall_refused(cases, number, starts, columns, height, **other)
+
+    for lent in (starts[:-1], starts + [12], [], starts[:5], starts[:5] + [12], [1] + starts[1:], starts[:-1] + [11], starts[:-1] + [13], starts[:5] + [8, 12, 12],
+                 starts[:5] + [11, 10, 12], starts[:6] + [13, 12], starts[:6] + [65535, 12], [0, 2, 4, 6, 9, 9, 9, 9]):
+        pattern(2, lent)
+    for height in (4, 5, 6, 8, 14):
+        pattern(2, starts, height=height)
+    pattern(2, *flat(FIELDS))                                           # the square's own
+    pattern(2, starts, columns[:-1])
+    pattern(2, starts[:5] + [8, 12, 12], [0, 5] + columns[2:], list=4)  # before 3 and 6
+    pattern(0, [0, 2, 4, 6, 9, 9, 9, 12], columns[:9] + [1, 3, 4])
+    pattern(0, [0, 2, 4, 6, 9, 9, 11, 12])
+
+
+def tall_refused_3_to_5(cases):
+    """Faults in the rows above n, 5 in row n and not above it, and their order."""
+    def rows_above(number, *above, square=FIELDS, **other):
+        tall_refused(cases, number, *flat(square + list(above)), 4 + len(above), **other)
+
+    for column in (0, 5, 6, 7, 65535):                                  # 3: the row's own number is no column
+        rows_above(3, [column])
+        rows_above(3, [], [1, column])
+        rows_above(3, [1], [2], [3, column], u_starts=5)                # before 6
+    for above in ([[1, 1]], [[], [3, 2]], [[4], [], [1, 4, 3]], [[2, 1, 5]]):
+        rows_above(4, *above)
+        rows_above(4, *above, list=4)
+    rows_above(3, [2, 5, 1])
+    rows_above(4, [2, 1], [5])                                          # row by row
+    rows_above(3, [5], [2, 1])
+    for last in ([3], [], [1, 2, 3]):                                   # 5 at row n, with and without a row above that could be its own
+        for above in ([[4]], [[]], [[5]], [[2, 1], [4]]):
+            rows_above(5, *above, square=FIELDS[:3] + [last])
+    rows_above(5, [2], square=[[1, 3], [2, 4], [1], [2, 3, 4]])
+    for above in ([[]], [[1]], [[1, 2, 3]], [[], [], [], []], [[4], [1], [2, 3]]):
+        rows_above(0, *above)                                           # none of them needs a diagonal
+
+
+def tall_refused_6(cases):
+    """Stores of one place more or fewer, work stores for n rows alone, and starts stores for every row."""
+    for n, rows in (cases_tall.over(FIELDS, [[1, 4], [3], []]), cases_tall.over([[1]], [[]]), cases_tall.seen_again(shape(5, lambda i, j: abs(i - j) == 1), 5)):
+        height = len(rows)
+        right, square, all_rows = cases.right_lengths(n, height), cases.right_lengths(n, n), cases.right_lengths(height, height)
+        for name in STORES[2:]:
+            for length in sorted({right[name] - 1, right[name] + 1, square[name], all_rows[name]} - {right[name]}):
+                assert cases.plan(rows, n=n, **{name: length}) == "refused 6 0"
+        cases.plan(rows, n=n, **square)
+        cases.plan(rows, n=n, **all_rows)
+        cases.plan(rows, -1, -1, n=n, list=n)                           # before 7 and 8
+        cases.plan(rows, n=n, list=height + 1, row_heads=height)
+
+
+def tall_ends_shared(cases, rng):
+    """Patterns whose lists share with the end of the whole store otherwise than document 01 alone has it, on the side of L and of U in turn: exactly enough room, and
+    one place fewer on that side."""
+    for turn in range(30):
+        upper, rooms, alone = turn % 2, (0, 0), (0, 0)
+        while rooms[upper] >= alone[upper]:
+            n, rows = cases_tall.drawn(rng)
+            rooms, alone = rooms_by(cases.dense, rows, n), rooms_by(cases.document_01, rows, n)
+        cases.plan(rows, n=n)
+        cases.plan(rows, upper - 1, -upper, n=n)
+
+
+def tall(cases, rng):
+    """All of them; how many, and what they reach."""
+    before, answers = cases.count, dict(cases.answers)
+    tall_planned(cases, rng)
+    handed = tall_handed_on(cases, rng)
+    rooms = tall_rooms(cases, rng)
+    sides = tall_side_by_side(cases, rng)
+    refused_25(cases)
+    tall_refused_2(cases)
+    tall_refused_3_to_5(cases)
+    tall_refused_6(cases)
+    tall_ends_shared(cases, rng)
+    reached = {number: count - answers.get(number, 0) for number, count in sorted(cases.answers.items()) if count > answers.get(number, 0)}
+    return (f"{cases.count - before}, steps that hand on to none: {len(handed)} kinds, each at {min(handed.values())}; rooms that end where L takes rows above n: {rooms}; "
+            f"{len(sides)} pairs of what a row above n is to L and to U, each at {min(sides.values())} steps; answers {reached}")
+
+
 def main():
     if len(sys.argv) != 2:
         raise SystemExit(__doc__)
@@ -392,14 +576,15 @@ def main():
     many = met_together(cases, rng)
     sides = side_by_side(cases, rng)
     ends = ends_shared(cases, random.Random(8445))
-    assert all(cases.answers.get(number, 0) >= 10 for number in range(9)), cases.answers
+    more_rows = tall(cases, random.Random(8446))
+    assert all(cases.answers.get(number, 0) >= 10 for number in (*range(9), 25)), cases.answers
     # the last request asks for more columns than the program has: it ends the program
-    cases.words += [1024, 1, 2, 16401] + [1] * 12
+    cases.words += [1024, 1, 1, 2, 16401] + [1] * 12
     cases.lines.append("bad request")
     write_files("cases_planning", struct.pack(f"<{len(cases.words)}H", *cases.words), "\n".join(cases.lines) + "\n")
     print(f"{cases.count} cases; rows that join the list before: {short}; on rows met together: {many}; "
           f"{len(sides)} pairs of what a row is to L and to U, each at {min(sides.values())} steps; "
-          f"on lists that share with the end of the store: {ends}; otherwise by document 01 alone: {sum(cases.changed.values())} requests on "
+          f"on lists that share with the end of the store: {ends}; with more rows than columns, or 25: {more_rows}; otherwise by document 01 alone: {sum(cases.changed.values())} requests on "
           f"{len(cases.patterns)} patterns, by its answer and ours {dict(sorted(cases.changed.items()))}; "
           f"answers by number (0: planned) {dict(sorted(cases.answers.items()))}; "
           f"7 at steps {sorted(cases.steps[7])}, 8 at steps {sorted(cases.steps[8])}")

@@ -31,22 +31,22 @@ def met_and_handed(plan, rows):
     """For each step the rows that are first met at it, and the steps of its set S."""
     first_met, steps = ([[] for _ in range(plan.n + 2)] for _ in "rs")
     for i, row in enumerate(rows, 1):
-        first_met[row[0]].append(i)
+        if row:
+            first_met[row[0]].append(i)
     for k in range(1, plan.n + 1):
-        if plan.l_side.kept[k]:
+        if plan.l_side.kept[k] and plan.u_side.kept[k]:
             steps[plan.u_side.kept[k][0]].append(k)
     return first_met, steps
 
 
-def joined(dense, rows):
+def joined(dense, rows, n=None):
     """The steps at which one row joins the list of the step before. For L, then for U: "end" if that list does not end its store, else how
     the row (L) or its columns (U) lie to it. To L the step's own row adds nothing, any other row adds itself."""
-    n = len(rows)
-    plan = dense.plan(rows)
+    plan = dense.plan(rows, n=n)
     first_met, steps = met_and_handed(plan, rows)
     used = {side: store_sizes(plan, side) for side in (plan.l_side, plan.u_side)}
     found = []
-    for k in range(2, n + 1):
+    for k in range(2, plan.n + 1):
         if len(first_met[k]) != 1 or steps[k] != [k - 1]:
             continue
         row = first_met[k][0]
@@ -58,6 +58,25 @@ def joined(dense, rows):
                 sides.append(place_in([x for x in side.kept[k - 1] if x != k], [x for x in more if x != k]))
         found.append(Joined(k, tuple(sides)))
     return found
+
+
+def joined_above(dense, rows, n):
+    """Those of them at which the row is above n. It is not the step's own: to L it adds itself."""
+    return [found for found in joined(dense, rows, n) if any(row[:1] == [found.step] for row in rows[n:])]
+
+
+# Document 02, ticket 9: "step k joins no S if U_k has no further member".
+HANDED_ON_TO_NONE = {"met": "all rows of L_k are first met at k", "sole": "L_k is what one step hands on", "several": "L_k is what several steps hand on",
+                     "both": "rows that are first met at k join what steps hand on"}
+
+
+def handed_on_to_none(plan, rows):
+    """The steps whose L has further members where their U has none, each with its kind and whether it is the last."""
+    first_met, steps = met_and_handed(plan, rows)
+    for k in range(1, plan.n + 1):
+        if plan.l_side.kept[k] and not plan.u_side.kept[k]:
+            kind = "met" if not steps[k] else "both" if first_met[k] else "sole" if len(steps[k]) == 1 else "several"
+            yield k, kind, k == plan.n
 
 
 def ways(dense, rows):

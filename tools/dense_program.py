@@ -2,20 +2,21 @@
 
 It is a folder with now.py, which knows whole calls by documents 01 and 02, tickets.py, which reads and writes offsets, adds to a tally and draws test loads (document 02,
 tickets 11, 10 and 6), and what these import. LANDED says which requests of document 02 have landed; `Dense(FOLDER, share_end=False)` answers as if ticket 5 had not,
-`Dense(FOLDER, faint=False)` as if ticket 14 had not, so that the cases can show where a request's rule makes a difference.
+`Dense(FOLDER, faint=False)` as if ticket 14 had not, so that the cases can show where a request's rule makes a difference. `Dense(FOLDER, tall=False)`, without ticket 9,
+takes squares alone.
 """
 import collections
 import os
 import sys
 
 # the rules of tickets 5, 14 and 9, by now.py's names
-LANDED = {"share_end": True, "faint": True, "tall": False}
+LANDED = {"share_end": True, "faint": True, "tall": True}
 Called = collections.namedtuple("Called", "answer stores")
 OFFSET_BYTES = 14
 
 
 class Dense:
-    """Calls, plans and reports by the rules that are in. Without ticket 9 the row count is n, and the library's counts leave it out: they are seven."""
+    """Calls, plans and reports by the rules that are in. The row count stands behind n, in calls and among the eight counts of a plan."""
 
     def __init__(self, folder, **other_rules):
         if os.path.abspath(folder) not in sys.path:
@@ -24,10 +25,10 @@ class Dense:
         import tickets
         self.now, self.tickets, self.rules = now, tickets, now.Rules(**{**LANDED, **other_rules})
 
-    # ---- plans of patterns that pass 1 to 5, given by their rows
+    # ---- plans of patterns that pass 1 to 5, given by their rows; they have as many columns, or n where that is given
 
-    def plan(self, rows, l_room=None, u_room=None):
-        return self.now.make_plan(len(rows), len(rows), numbered(rows), self.rules, l_room, u_room)
+    def plan(self, rows, l_room=None, u_room=None, n=None):
+        return self.now.make_plan(n or len(rows), len(rows), numbered(rows), self.rules, l_room, u_room)
 
     def refused_at(self, rows, l_room, u_room):
         """The step at which a plan does not fit."""
@@ -38,26 +39,26 @@ class Dense:
         raise AssertionError("the rooms were to be too small")
 
     def counts_of(self, plan):
-        return without_rows(self.now.counts_of(plan))
+        return list(self.now.counts_of(plan))
 
     def stores_of(self, plan):
         return self.now.stores_of(plan)
 
-    def pivot_rows(self, rows, values, right):
-        """The row list of a run by the largest entry."""
-        return self.now.run_full(len(rows), len(rows), numbered(rows), values, right, None, None, self.rules)[2]
+    def pivot_rows(self, rows, values, right, n=None):
+        """The row list of all steps by the largest entry."""
+        n = n or len(rows)
+        return self.now.run_full(n, len(rows), numbered(rows), values, right, None, n, self.rules)[2]
 
     # ---- whole calls
 
-    def plan_call(self, most, n, starts, columns, lengths, work):
-        answer, stores = self.now.plan_call(most, n, n, starts, columns, lengths, work, self.rules)
-        return Called(("granted", without_rows(answer[1])) if answer[0] == "granted" else answer, stores)
+    def plan_call(self, most, n, height, starts, columns, lengths, work):
+        return Called(*self.now.plan_call(most, n, height, starts, columns, lengths, work, self.rules))
 
-    def hold_call(self, most, n, starts, columns, counts, stores, work):
-        return self.now.hold_call(most, n, n, starts, columns, with_rows(counts, n), stores, work, self.rules)
+    def hold_call(self, most, n, height, starts, columns, counts, stores, work):
+        return self.now.hold_call(most, n, height, starts, columns, counts, stores, work, self.rules)
 
-    def run_call(self, most, n, starts, columns, counts, stores, work, values, right, listed, cut, lengths):
-        return self.now.run_call(most, n, n, starts, columns, with_rows(counts, n), stores, work, values, right, listed, cut, lengths, self.rules)
+    def run_call(self, most, n, height, starts, columns, counts, stores, work, values, right, listed, cut, lengths):
+        return self.now.run_call(most, n, height, starts, columns, counts, stores, work, values, right, listed, cut, lengths, self.rules)
 
     def report(self, job):
         return self.now.report(job, self.rules)
@@ -96,11 +97,3 @@ class Dense:
 
 def numbered(rows):
     return dict(enumerate(rows, 1))
-
-
-def without_rows(counts):
-    return [counts[0], *counts[2:]]
-
-
-def with_rows(counts, rows):
-    return [counts[0], rows, *counts[1:]]

@@ -10,11 +10,11 @@ from job_bytes import MOST_BYTES, MOST_FIELDS, Refused, is_finite, number_of, re
 
 ROOM = 2048
 
-# What is wrong, for each refusal of document 01, 13 by document 02's ticket 14, 19 and 27 by its ticket 10, 23 by its ticket 6, 28 and 29 by its ticket 11;
-# {k} is its step.
+# What is wrong, for each refusal of document 01, 13 by document 02's ticket 14, 19 and 27 by its ticket 10, 23 by its ticket 6, 25 and 26 by its ticket 9,
+# 28 and 29 by its ticket 11; {k} is its step.
 SENTENCES = {
     1: f"The number of fields is 0 or above {MOST_FIELDS} (in a call of the library: above 1,024, or more than 16,384 entries).",
-    2: "The row starts of a pattern are not n+1, do not begin with 0, fall, or do not end with the number of entries.",
+    2: "The row starts of a pattern are not one more than its rows, do not begin with 0, fall, or do not end with the number of entries.",
     3: "A column number is 0 or larger than the number of fields.",
     4: "The columns of a row do not ascend strictly.",
     5: "A row lacks its diagonal place. Where its value is zero it has to be listed all the same.",
@@ -25,7 +25,7 @@ SENTENCES = {
     10: f"The plan needs more value slots on a side than are lent (in the program {ROOM:,}); "
         "or, in a call of the library, a store of values has another length than it should.",
     11: "A value or a right side is not finite.",
-    12: "The row list names for some step k a row before k or after n "
+    12: "The row list names for some step k a row before k or after the last one "
         "(or, in a call of the library, is not n long, or the run is to be cut after more than n steps).",
     13: "At step {k} there is no pivot: no row from {k} on, or not the listed row, has an entry of magnitude at least 2^-1022 in column {k}. "
         "The equations do not determine every field, or only by weights too faint to divide by, or the list is not legal.",
@@ -36,11 +36,13 @@ SENTENCES = {
     18: f"The job has more than {MOST_BYTES:,} bytes.",
     19: "The member's sum in the tally would pass 4,294,967,295; the tally stays as it was.",
     23: "The divisor d of a test load is 0.",
+    25: "The rows are fewer than n or more than 2,048.",
+    26: "A system with more rows than n is to be solved: it can be run only when cut.",
     27: "The member number is outside 1 to 16; the tally stays as it was.",
     28: "The text is not an offset such as +012 34 56.789 (14 bytes, below 360 degrees), or it is minus zero.",
     29: "The number of milliarcseconds is not finite or rounds beyond the largest, 1,295,999,999.",
 }
-NOT_OF_JOBS = (2, 6, 9, 19, 23, 27, 28, 29)
+NOT_OF_JOBS = (2, 6, 9, 19, 23, 25, 26, 27, 28, 29)
 WITH_STEP = (7, 8, 13, 14)      # the others have step 0
 
 

@@ -230,18 +230,18 @@ class Answers(unittest.TestCase):
     def test_sentences_of_requests(self):
         """The header's words."""
         header = dict(re.findall('case ([0-9]+): return "(.*)";', contents(os.path.join(HERE, "..", "include", "dalumiveth.h")).decode()))
-        for number in (19, 23, 27, 28, 29):
+        for number in (19, 23, 25, 26, 27, 28, 29):
             said = header[str(number)]
             self.assertEqual(job_answer.SENTENCES[number], said[0].upper() + said[1:] + ".")
 
     def test_every_refusal_has_its_sentence(self):
-        self.assertEqual(sorted(job_answer.SENTENCES), [*range(1, 20), 23, 27, 28, 29])
+        self.assertEqual(sorted(job_answer.SENTENCES), [*range(1, 20), 23, *range(25, 30)])
         for number in job_answer.SENTENCES:
             step = 17 if number in (7, 8, 13, 14) else 0
             said, finished = job_answer.explain(f"refused {number} {step}\n")
             self.assertFalse(finished)
             self.assertTrue(said.startswith(f"refused, number {number}" + (", step 17\n" if step else "\n")), said)
-            self.assertEqual(said.count("\n"), 3 if number in (2, 6, 9, 19, 23, 27, 28, 29) else 2)
+            self.assertEqual(said.count("\n"), 3 if number in (2, 6, 9, 19, 23, *range(25, 30)) else 2)
             self.assertEqual("17" in said.splitlines()[1], bool(step))
             self.assertNotIn("{", said)
         self.assertIn("has an entry of magnitude at least 2^-1022 in column 17", job_answer.explain("refused 13 17\n")[0])
@@ -277,8 +277,8 @@ class Answers(unittest.TestCase):
                 job_answer.explain(LISTING, job)
 
     def test_no_whole_answer(self):
-        for text in ("", "refused 20 0\n", "refused 0 0\n", "refused 3\n", "refused 3 0", LISTING[:-1], LISTING + "x", LISTING.replace("x 2", "x 5"),
-                     "refused 3 5\n", "refused 7 0\n", "refused " + "9" * 5000 + " 0\n", LISTING.replace("plan 4", "plan " + "4" * 5000),
+        for text in ("", "refused 20 0\n", "refused 24 0\n", "refused 0 0\n", "refused 3\n", "refused 3 0", LISTING[:-1], LISTING + "x",
+                     LISTING.replace("x 2", "x 5"), "refused 3 5\n", "refused 26 1\n", "refused 7 0\n", "refused " + "9" * 5000 + " 0\n", LISTING.replace("plan 4", "plan " + "4" * 5000),
                      LISTING.replace("rows 3", "rows"), LISTING.replace("updates 3\n", ""), "plan 1\n", "garbage\n"):
             with self.assertRaises(job_answer.BadAnswer, msg=text):
                 job_answer.explain(text)

@@ -3,6 +3,7 @@
     plan = dalumiveth.plan(A)       once for a pattern; the values are not looked at
     run = plan.run(A, b)            many times: run.x, run.pivot_rows, run.updates, run.L, run.U
     x = plan.solve(A, b)            the solution alone
+    plan.run(A, b, steps=plan.n)    reduces a tall A, of more rows than columns: run.U, run.x[:n] and the misfit run.x[n:]
     factor = dalumiveth.splu(A)     in the manner of scipy.sparse.linalg.splu
     tally.add(3, run.updates)       the updates of a finished run for member 3; tally = dalumiveth.Tally()
     dalumiveth.write_offset(x[0])   milliarcseconds as "+012 34 56.789"; read_offset reads such a text

@@ -17,7 +17,7 @@ _NUMBER = [ctypes.c_size_t]
 _SEED = [ctypes.c_uint32]            # ctypes drops what passes 32 bits: loads.py sees to it that nothing does
 _REAL = [ctypes.c_double]
 
-_PATTERN = 2 * _NUMBER + 2 * _SLICE  # most, n; starts, columns
+_PATTERN = 3 * _NUMBER + 2 * _SLICE  # most, n, row count; starts, columns
 _COUNTS = _SLICE
 _STORES = 6 * _SLICE                 # subscripts, starts and slots of L, then of U
 _SYSTEM = 2 * _SLICE                 # values, right side

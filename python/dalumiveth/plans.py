@@ -6,16 +6,17 @@ from typing import NamedTuple
 import numpy as np
 
 from .library import USIZE, as_usize, call, lend
-from .patterns import MATRIX, MOST_FIELDS, by_rows, in_order, pattern_of
+from .patterns import MATRIX, MOST_FIELDS, MOST_ROWS, by_rows, in_order, pattern_of
 from .refusals import raise_if_refused
 from .runs import Run
 from .stores import floats, usizes, whole_numbers
 
 
 class Counts(NamedTuple):
-    """The seven counts of a plan."""
+    """The eight counts of a plan; height is the row count."""
 
     n: int
+    height: int
     entries: int
     l_subscripts: int
     u_subscripts: int
@@ -43,21 +44,24 @@ def plan(matrix, *, add_diagonal=False, most=MOST_FIELDS, room=None):
 
     matrix        a SciPy sparse matrix, or any object with indptr, indices and shape (`CSR` is one). Formats other than
                   CSR are converted by their own tocsr(). Columns that are not sorted within a row are sorted on a copy.
-                  A place that is listed twice is refused with 4: A.sum_duplicates() adds the values up.
-    add_diagonal  a row without a stored diagonal place is refused with 5; with add_diagonal=True the place is put into
-                  the pattern, with the value +0 in every run.
+                  A place that is listed twice is refused with 4: A.sum_duplicates() adds the values up. Its shape is
+                  (rows, n), n to 2,048 rows; rows beyond the first n may be empty.
+    add_diagonal  one of the first n rows without a stored diagonal place is refused with 5; with add_diagonal=True the
+                  place is put into the pattern, with the value +0 in every run.
     most          the largest n that is taken, at most 1,024
     room          how many subscripts a side may need: a number, or one for L and one for U. None is always enough.
 
-    Raises `Refusal` 1 to 5, and 7 or 8 if the room is too small.
+    Raises `Refusal` 1 to 5 and 25, and 7 or 8 if the room is too small.
     """
     pattern = pattern_of(matrix, add_diagonal)
     most = as_usize(most, "most")
     n = min(pattern.n, MOST_FIELDS)  # a larger n is refused before any store is looked at
-    stores = _empty_stores(n, *_rooms(room, n))
-    answer = np.zeros(9, dtype=USIZE)
-    work = _index_work(n)
-    call("dalumiveth_plan", most, pattern.n, *lend(pattern.starts, pattern.columns, *stores, *work, answer))
+    height = min(max(pattern.height, n), MOST_ROWS)  # and so is another row count
+    stores = _empty_stores(n, *_rooms(room, n, height))
+    answer = np.zeros(10, dtype=USIZE)
+    work = _index_work(height)
+    lent = lend(pattern.starts, pattern.columns, *stores, *work, answer)
+    call("dalumiveth_plan", most, pattern.n, pattern.height, *lent)
     raise_if_refused(answer)
     counts = Counts(*answer[2:].tolist())
     trimmed = stores._replace(
@@ -69,15 +73,17 @@ def plan(matrix, *, add_diagonal=False, most=MOST_FIELDS, room=None):
 class Plan:
     """The plan of a pattern, with work stores of its own; `dalumiveth.plan` makes it.
 
-    n, shape  rows and columns
-    counts    the seven counts: n, entries, L and U subscripts, L and U slots, reads
-    stores    the six stores of the plan, write-protected
-    pattern   the pattern as the library takes it, write-protected
+    n, height  columns and rows
+    shape      (height, n)
+    counts     the eight counts: n, height, entries, L and U subscripts, L and U slots, reads
+    stores     the six stores of the plan, write-protected
+    pattern    the pattern as the library takes it, write-protected
 
     Every run first verifies that counts and stores are the plan of the pattern, and refuses with 9 (or 6, for a store of
     another length) if they are not. So `Plan(pattern, counts, stores)` may be given what was kept elsewhere: a plan that was
     damaged on the way cannot lead to a wrong answer. One that was kept from before subscripts were shared with the end of the
-    whole store (document 02, ticket 5) is 9 where its lists lie otherwise: plan anew.
+    whole store (document 02, ticket 5) is 9 where its lists lie otherwise, and one from before plans held a row count (ticket
+    9) lacks a count: plan anew.
 
     A plan's work stores serve one run at a time. Threads may share a plan: a lock makes them wait for each other. Threads
     that shall run side by side take a `copy()` each. The arrays that are lent to a run must not be changed meanwhile.
@@ -93,7 +99,7 @@ class Plan:
         # Pointers are taken once; the arrays live as long as the plan, since no attribute can be set to others.
         self._lent_plan = lend(self._count_store, *stores)
         # Work stores and the answer's store: made once, lent to every call.
-        self._work = (*_index_work(self.n), np.zeros(self.n), np.zeros(self.n + 1))
+        self._work = (*_index_work(self.height), np.zeros(self.height), np.zeros(self.height + 1))
         self._answer = np.zeros(3, dtype=USIZE)
         self._lent_work = lend(*self._work)
         self._lent_answer = lend(self._answer)
@@ -102,9 +108,10 @@ class Plan:
     def __repr__(self):
         return f"<dalumiveth.Plan {', '.join(f'{name} {count}' for name, count in self.counts._asdict().items())}>"
 
-    n = property(lambda self: self._pattern.n, doc="Rows and columns.")
-    shape = property(lambda self: (self.n, self.n), doc="(n, n)")
-    counts = property(lambda self: self._counts, doc="The seven counts, a `Counts`.")
+    n = property(lambda self: self._pattern.n, doc="How many columns there are, and steps.")
+    height = property(lambda self: self._pattern.height, doc="How many rows there are: n of a square, more of a tall pattern.")
+    shape = property(lambda self: (self.height, self.n), doc="(height, n)")
+    counts = property(lambda self: self._counts, doc="The eight counts, a `Counts`.")
     stores = property(lambda self: self._stores, doc="The six stores, a `Stores`; write-protected.")
     pattern = property(lambda self: self._pattern, doc="The pattern as the library takes it; write-protected.")
 
@@ -113,15 +120,18 @@ class Plan:
 
         matrix  a matrix of the planned pattern, or its values alone: a float64 array in the order of the data of the matrix
                 that was planned. A matrix of a pattern with another plan is refused with 9.
-        right   the right side, float64
-        rows    the row list: the row of each step, counted from 0. None: the largest entry of the column chooses. Either way a
-                pivot has magnitude at least 2^-1022; where none has, or not the listed one, the run is refused with 13.
+        right   the right side, float64, one number for each row
+        rows    the row list: the row of each of the n steps, counted from 0, any from the step's own to the last. None: the
+                largest entry of the column chooses. Either way a pivot has magnitude at least 2^-1022; where none has, or not
+                the listed one, the run is refused with 13.
         steps   cuts the run to its first `steps` steps, without back substitution; run.x is then the right side as it is
-                after them. None: a whole run.
+                after them. None: a whole run, which is refused with 26 where there are more rows than n: steps=n reduces such a
+                tall system, the first n rows are then triangular (run.U, run.x[:n]), and run.x[n:] is the misfit.
 
-        Raises `Refusal` 9 to 14; for a matrix with another n 6, for one whose pattern has no plan 1 to 5. Arrays of another
-        type or with gaps are a TypeError. Values and right side are lent as they are (values that have to be sorted, or get a
-        diagonal, are copied), and never changed. Values alone are quicker than a matrix, whose pattern is read each time.
+        Raises `Refusal` 9 to 14 and 26; for a matrix of another shape 6, for one whose pattern has no plan 1 to 5 or 25. Arrays
+        of another type or with gaps are a TypeError. Values and right side are lent as they are (values that have to be sorted,
+        or get a diagonal, are copied), and never changed. Values alone are quicker than a matrix, whose pattern is read each
+        time.
         """
         pattern, values = self._pattern_and_values(matrix)
         system = lend(values, floats(right, "right"))
@@ -131,13 +141,16 @@ class Plan:
         results = self._result_stores()
         lent = (*lend(pattern.starts, pattern.columns), *self._lent_plan, *system, *choice, *extent, *lend(*results))
         with self._lock:
-            call("dalumiveth_run", self._most, pattern.n, *lent, *self._lent_work, *self._lent_answer)
+            call("dalumiveth_run", self._most, pattern.n, pattern.height, *lent, *self._lent_work, *self._lent_answer)
             answer = self._answer.tolist()
         raise_if_refused(answer)
         return Run(self, *results, updates=answer[2], steps=steps)
 
     def solve(self, matrix, right):
-        """The solution x of A x = right; for a right side with several columns, one run for each of them."""
+        """The solution x of A x = right; for a right side with several columns, one run for each of them.
+
+        Raises `Refusal` as `run` does, 26 where there are more rows than n.
+        """
         if isinstance(right, np.ndarray) and right.ndim == 2:
             columns = [self.run(matrix, column.copy()).x for column in right.T]
             return np.column_stack(columns) if columns else np.zeros_like(right)
@@ -148,7 +161,7 @@ class Plan:
         pattern = self.pattern if matrix is None else pattern_of(matrix, self._add_diagonal)
         lent = (*lend(pattern.starts, pattern.columns), *self._lent_plan)
         with self._lock:
-            call("dalumiveth_verify", self._most, pattern.n, *lent, *lend(*self._work[:6]), *self._lent_answer)
+            call("dalumiveth_verify", self._most, pattern.n, pattern.height, *lent, *lend(*self._work[:6]), *self._lent_answer)
             answer = self._answer.tolist()
         raise_if_refused(answer)
 
@@ -173,10 +186,10 @@ class Plan:
         return pattern, in_order(floats(matrix.data, "data"), pattern)
 
     def _result_stores(self):
-        """New stores for a run: l, u, d, x, pivots. No plan has more than n(n-1)/2 slots a side, whatever the counts say."""
-        slots = _always_enough(self.n)
-        l_slots, u_slots = min(self.counts.l_slots, slots), min(self.counts.u_slots, slots)
-        return (np.empty(l_slots), np.empty(u_slots), np.empty(self.n), np.empty(self.n), np.empty(self.n, dtype=USIZE))
+        """New stores for a run: l, u, d, x, pivots. No plan has more slots than are always enough, whatever the counts say."""
+        l_most, u_most = _always_enough(self.n, self.height)
+        l_slots, u_slots = min(self.counts.l_slots, l_most), min(self.counts.u_slots, u_most)
+        return (np.empty(l_slots), np.empty(u_slots), np.empty(self.n), np.empty(self.height), np.empty(self.n, dtype=USIZE))
 
 
 def _kept_list(step, subs, starts, slots):
@@ -186,15 +199,16 @@ def _kept_list(step, subs, starts, slots):
     return subs[start : start + size].astype(np.intp) - 1
 
 
-def _always_enough(n):
-    """As many subscripts, or slots, as a side of any plan of n can need."""
-    return n * (n - 1) // 2
+def _always_enough(n, height):
+    """As many subscripts, or slots, as L and U of any plan can need: the places below the diagonal and those above it."""
+    triangle = n * (n - 1) // 2
+    return triangle + n * (height - n), triangle
 
 
-def _rooms(room, n):
+def _rooms(room, n, height):
     """The room for subscripts, of L and of U."""
     if room is None:
-        return _always_enough(n), _always_enough(n)
+        return _always_enough(n, height)
     return room if isinstance(room, tuple) else (room, room)
 
 
@@ -204,6 +218,7 @@ def _empty_stores(n, l_room, u_room):
     return Stores(*(np.empty(size, dtype=USIZE) for size in sizes))
 
 
-def _index_work(n):
-    """Row heads and links, set heads and links, list, spare."""
-    return tuple(np.zeros(size, dtype=USIZE) for size in (n + 1, n + 1, n + 1, n + 1, n, n))
+def _index_work(height):
+    """Row heads and links, set heads and links, list, spare: every work store goes by the row count."""
+    sizes = (height + 1, height + 1, height + 1, height + 1, height, height)
+    return tuple(np.zeros(size, dtype=USIZE) for size in sizes)

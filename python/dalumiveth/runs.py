@@ -11,7 +11,7 @@ except ImportError:
 class Run:
     """A finished run.
 
-    x           the solution; after a cut run the right side as it then is
+    x           the solution; after a cut run the right side as it then is, one number for each row
     pivot_rows  the row chosen at each step, counted from 0; -1 for a step that was not done
     updates     how many subtractions were made in the matrix
     l, u, d     the slots of L (multipliers, column by column), of U (row by row) and of the diagonal
@@ -36,30 +36,36 @@ class Run:
     def L(self):
         """The multipliers in their slots under a diagonal of ones, as CSR (numpy where SciPy is missing).
 
+        Its shape is the matrix's, so that rows beyond the first n have multipliers alone.
         Multipliers stay where they were written: later exchanges of rows do not move them, so A is not L @ U with its rows
         in another order. A right side b becomes that of U by: for each step k, exchange b[k] and b[pivot_rows[k]], then
         subtract L[i, k] * b[k] from each b[i] below.
         """
         rows, columns = self._places("lower")
-        return self._matrix(columns, rows, self.l, np.ones(self.plan.n))
+        return self._matrix(self.plan.shape, columns, rows, self.l, np.ones(self.plan.n))
 
     @property
     def U(self):
-        """The slots of U and the diagonal, as CSR (numpy where SciPy is missing). Slots that hold 0 are stored too."""
-        return self._matrix(*self._places("upper"), self.u, self.d)
+        """The slots of U and the diagonal, n by n, as CSR (numpy where SciPy is missing). Slots that hold 0 are stored too."""
+        return self._matrix((self.plan.n, self.plan.n), *self._places("upper"), self.u, self.d)
 
     @property
     def nnz(self):
         """How many slots the plan has: L, U and the diagonal; slots that hold 0 are counted."""
         return self.l.size + self.u.size + self.d.size
 
-    def square(self):
-        """The full square: multipliers below the diagonal, U above it, +0 where the plan has no slot."""
-        square = np.diag(self.d)
+    def rectangle(self):
+        """The full rectangle of the plan's shape: multipliers below the diagonal, U above it, +0 where the plan has no slot.
+
+        After a cut run the columns of the steps that were not done hold the numbers that are still to be eliminated.
+        """
+        rectangle = _with_diagonal(self.plan.shape, self.d)
         columns, rows = self._places("lower")
-        square[rows, columns] = self.l
-        square[self._places("upper")] = self.u
-        return square
+        rectangle[rows, columns] = self.l
+        rectangle[self._places("upper")] = self.u
+        return rectangle
+
+    square = rectangle  # its name where rows and columns are as many
 
     def _places(self, side):
         """For each slot of a side, in order: the step it belongs to and its subscript, both from 0."""
@@ -69,14 +75,21 @@ class Run:
         within = np.arange(step.size) - slots[:-1].astype(np.intp)[step]
         return step, subs[starts.astype(np.intp)[step] + within].astype(np.intp) - 1
 
-    def _matrix(self, rows, columns, slots, diagonal):
+    def _matrix(self, shape, rows, columns, slots, diagonal):
         """A matrix of slots and a diagonal."""
         if sparse is None:
-            dense = np.diag(diagonal)
+            dense = _with_diagonal(shape, diagonal)
             dense[rows, columns] = slots
             return dense
         every = np.arange(self.plan.n)
         places = (np.concatenate((rows, every)), np.concatenate((columns, every)))
-        matrix = sparse.csr_matrix((np.concatenate((slots, diagonal)), places), shape=self.plan.shape)
+        matrix = sparse.csr_matrix((np.concatenate((slots, diagonal)), places), shape=shape)
         matrix.sort_indices()
         return matrix
+
+
+def _with_diagonal(shape, diagonal):
+    """A dense matrix with this diagonal and +0 elsewhere; it may have more rows than columns."""
+    dense = np.zeros(shape)
+    np.fill_diagonal(dense, diagonal)
+    return dense

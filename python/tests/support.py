@@ -23,16 +23,22 @@ except ImportError:
 
 
 def csr(n, rows, data=None):
-    """A CSR of the columns (from 0) of each row."""
+    """A CSR of n columns, of the columns (from 0) of each row."""
     indptr = np.concatenate(([0], np.cumsum([len(row) for row in rows]))).astype(np.int32)
     indices = np.array([column for row in rows for column in row], dtype=np.int32)
-    return dalumiveth.CSR(indptr, indices, None if data is None else np.array(data, dtype=float), (n, n))
+    return dalumiveth.CSR(indptr, indices, None if data is None else np.array(data, dtype=float), (len(rows), n))
 
 
 def four_fields():
     """Matrix and right side of the four fields."""
     matrix = csr(4, [[0, 2], [1, 3], [0, 2], [1, 2, 3]], [2, 1, 1, 1, 4, 4, 2, 1, 4])
     return matrix, np.array([3.0, 2.0, 8.0, 7.0])
+
+
+def seen_twice():
+    """Matrix and right side of two fields with five equations: the third has no entry, so that all of its right side is misfit."""
+    matrix = csr(2, [[0, 1], [1], [], [0], [0, 1]], [2, 1, 2, 1, 4, 3])
+    return matrix, np.array([3.0, 1.0, 0.5, 1.0, 7.0])
 
 
 def diagonal(n, data=None):

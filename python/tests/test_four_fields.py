@@ -25,7 +25,7 @@ class FourFields(unittest.TestCase):
         """M1 to M3."""
         self.assertEqual([self.plan.upper(k).tolist() for k in range(4)], [[2], [2, 3], [3], []])
         self.assertEqual([self.plan.lower(k).tolist() for k in range(4)], [[2], [3], [3], []])
-        self.assertEqual(tuple(self.plan.counts), (4, 9, 2, 2, 3, 4, 31))
+        self.assertEqual(tuple(self.plan.counts), (4, 4, 9, 2, 2, 3, 4, 31))
         stores = [store.tolist() for store in self.plan.stores]
         self.assertEqual(stores, [[3, 4], [0, 1, 1, 2], [0, 1, 2, 3, 3], [3, 4], [0, 0, 1, 2], [0, 1, 3, 4, 4]])
 

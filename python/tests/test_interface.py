@@ -8,7 +8,7 @@ import unittest
 
 import numpy as np
 
-from support import ROOT, bits, csr, dalumiveth, four_fields, refusal_of
+from support import ROOT, bits, csr, dalumiveth, four_fields, refusal_of, seen_twice
 
 
 class Arrays(unittest.TestCase):
@@ -39,8 +39,12 @@ class Arrays(unittest.TestCase):
             dalumiveth.plan(np.eye(3))
         with self.assertRaisesRegex(TypeError, "values has 2 dimensions"):
             self.plan.run(np.eye(4), self.right)
-        with self.assertRaisesRegex(ValueError, "square"):
-            dalumiveth.plan(self.matrix._replace(shape=(4, 5)))
+        for shape in ((4,), (4, 4, 4), ()):
+            with self.assertRaisesRegex(ValueError, "rows and columns are needed"):
+                dalumiveth.plan(self.matrix._replace(shape=shape))
+        for shape, name in (((-1, 4), "the row count"), ((4, -1), "n")):
+            with self.assertRaisesRegex(ValueError, f"^{name} is -1"):
+                dalumiveth.plan(self.matrix._replace(shape=shape))
         with self.assertRaisesRegex(TypeError, "indices has dtype float64"):
             dalumiveth.plan(self.matrix._replace(indices=self.matrix.indices.astype(float)))
 
@@ -72,7 +76,7 @@ class Arrays(unittest.TestCase):
 
         def run(right):
             lent = (*lend(pattern.starts, pattern.columns), *plan._lent_plan, *lend(self.matrix.data, right), 0, *lend(no_rows), 0, 0)
-            return call("dalumiveth_run", 4, 4, *lent, *lend(*results), *plan._lent_work, *lend(answer))
+            return call("dalumiveth_run", 4, 4, 4, *lent, *lend(*results), *plan._lent_work, *lend(answer))
 
         self.assertEqual(run(self.right), 0)
         self.assertEqual(answer.tolist(), [0, 0, 3, 0, 0])
@@ -117,6 +121,76 @@ class Orders(unittest.TestCase):
         plan = dalumiveth.plan(matrix._replace(data=None))
         doubled = matrix._replace(indices=matrix.indices.astype(np.int64), data=2 * matrix.data)
         self.assertEqual(plan.run(doubled, right).x.tolist(), [0.5] * 4)
+
+
+class Tall(unittest.TestCase):
+    """More rows than columns (document 02, ticket 9)."""
+
+    def setUp(self):
+        self.matrix, self.right = seen_twice()
+        self.plan = dalumiveth.plan(self.matrix)
+
+    def test_shapes(self):
+        run = self.plan.run(self.matrix, self.right, steps=2)
+        self.assertEqual((self.plan.n, self.plan.height, self.plan.shape, self.plan.counts.height), (2, 5, (5, 2), 5))
+        self.assertEqual((run.rectangle().shape, run.L.shape, run.U.shape), ((5, 2), (5, 2), (2, 2)))
+        self.assertEqual((run.x.size, run.d.size, run.pivot_rows.size), (5, 2, 2))
+        self.assertEqual(self.plan.lower(0).tolist(), [3, 4])
+
+    def test_reduced(self):
+        """Worked by hand: the fifth equation is chosen first, then the second."""
+        run = self.plan.run(self.matrix, self.right, steps=2)
+        self.assertEqual(run.rectangle().tolist(), [[4, 3], [0, 2], [0, 0], [0.25, -0.375], [0.5, -0.25]])
+        self.assertEqual((run.pivot_rows.tolist(), run.updates), ([4, 1], 2))
+        self.assertEqual(run.x.tolist(), [7, 1, 0.5, -0.375, -0.25])
+        begun = self.plan.run(self.matrix, self.right, steps=1)
+        self.assertEqual(begun.rectangle().tolist(), [[4, 3], [0, 2], [0, 0], [0.25, -0.75], [0.5, -0.5]])
+        self.assertEqual((begun.pivot_rows.tolist(), begun.x.tolist()), ([4, -1], [7, 1, 0.5, -0.75, -0.5]))
+
+    def test_unsorted_and_added(self):
+        """Columns are sorted in every row; a diagonal is added to the first n rows alone."""
+        bare = csr(2, [[1, 0], [], [], [0], [1, 0]], [1, 2, 1, 3, 4])
+        stored = csr(2, [[0, 1], [1], [], [0], [0, 1]], [2, 1, 0, 1, 4, 3])
+        self.assertEqual(refusal_of(dalumiveth.plan, bare), (5, 0))
+        plan, expected = dalumiveth.plan(bare, add_diagonal=True), dalumiveth.plan(stored).run(stored, self.right, steps=2)
+        self.assertEqual(plan.counts, dalumiveth.plan(stored).counts)
+        for run in (plan.run(bare, self.right, steps=2), plan.run(bare.data, self.right, steps=2), plan.copy().run(bare, self.right, steps=2)):
+            self.assertEqual((bits(run.rectangle()), bits(run.x)), (bits(expected.rectangle()), bits(expected.x)))
+
+    def test_unsorted_at_the_limits(self):
+        """As many rows and entries as there may be."""
+        values, right = np.random.default_rng(3).standard_normal((2048, 8)), np.ones(2048)
+        ascending = csr(8, [range(8)] * 2048, values.ravel())
+        falling = csr(8, [range(7, -1, -1)] * 2048, values[:, ::-1].ravel())
+        first, second = (dalumiveth.plan(matrix).run(matrix, right, steps=8) for matrix in (ascending, falling))
+        self.assertEqual((bits(first.rectangle()), bits(first.x)), (bits(second.rectangle()), bits(second.x)))
+
+    def test_kept_plan(self):
+        """A plan that was put together again serves."""
+        again = dalumiveth.Plan(self.plan.pattern, self.plan.counts, self.plan.stores)
+        expected = self.plan.run(self.matrix, self.right, steps=2)
+        self.assertEqual(bits(again.run(self.matrix, self.right, steps=2).x), bits(expected.x))
+        again.verify(self.matrix)
+
+    def test_splu(self):
+        """What `Run.L` describes, done on the dense rectangle, leaves U and nothing below it."""
+        random = np.random.default_rng(9)
+        present = (random.random((50, 20)) < 0.2) | np.eye(50, 20, dtype=bool)
+        dense = np.where(present, random.standard_normal((50, 20)), 0.0)
+        factor = dalumiveth.splu(csr(20, [np.flatnonzero(row) for row in present], dense[present]))
+        lower, upper = (side if isinstance(side, np.ndarray) else side.toarray() for side in (factor.L, factor.U))
+        for k, p in enumerate(factor.pivot_rows):
+            dense[[k, p]] = dense[[p, k]]
+            dense[k + 1:] -= np.outer(lower[k + 1:, k], dense[k])
+        self.assertTrue(np.allclose(dense, np.vstack((upper, np.zeros((30, 20))))))
+        self.assertEqual((factor.shape, lower.diagonal().tolist()), ((50, 20), [1.0] * 20))
+
+    def test_without_scipy(self):
+        """L and U as numpy arrays, of the same shapes."""
+        code = ("import sys; sys.modules['scipy'] = None; from support import dalumiveth, seen_twice; A, b = seen_twice(); "
+                "run = dalumiveth.plan(A).run(A, b, steps=2); print(run.L.tolist(), run.U.tolist())")
+        ended = subprocess.run([sys.executable, "-c", code], cwd=ROOT / "python" / "tests", capture_output=True, text=True)
+        self.assertEqual(ended.stdout, "[[1.0, 0.0], [0.0, 1.0], [0.0, 0.0], [0.25, -0.375], [0.5, -0.25]] [[4.0, 3.0], [0.0, 2.0]]\n", ended.stderr)
 
 
 class Factors(unittest.TestCase):

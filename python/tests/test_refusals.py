@@ -1,4 +1,4 @@
-"""Every refusal, 1 to 19, 23 and 27 to 29, where a caller from Python can bring it about."""
+"""Every refusal, 1 to 19, 23 and 25 to 29, where a caller from Python can bring it about."""
 
 import copy
 import pickle
@@ -10,7 +10,7 @@ import unittest
 import numpy as np
 
 from dalumiveth.library import USIZE, call, lend
-from support import ROOT, csr, dalumiveth, diagonal, four_fields, refusal_of
+from support import ROOT, csr, dalumiveth, diagonal, four_fields, refusal_of, seen_twice
 
 
 class OfPatterns(unittest.TestCase):
@@ -38,7 +38,37 @@ class OfPatterns(unittest.TestCase):
         self.assertEqual(refusal_of(dalumiveth.plan, csr(2, [[0], [1, 0, 1]])), (4, 0))
 
     def test_5_diagonal(self):
+        """Rows beyond n need none, and may be empty."""
         self.assertEqual(refusal_of(dalumiveth.plan, csr(2, [[0, 1], [0]])), (5, 0))
+        self.assertEqual(refusal_of(dalumiveth.plan, csr(2, [[0, 1], [0], [1]])), (5, 0))
+        self.assertEqual(dalumiveth.plan(csr(2, [[0, 1], [1], [0], [], [0]])).shape, (5, 2))
+
+    def test_25_rows(self):
+        for n in (1, 2, 1024):
+            for rows in (n, n + 1, 2047, 2048):
+                matrix = csr(n, [[i] for i in range(n)] + [[]] * (rows - n))
+                self.assertEqual(dalumiveth.plan(matrix).shape, (rows, n))
+            for rows in (2049, 5000):
+                matrix = csr(n, [[i] for i in range(n)] + [[]] * (rows - n))
+                self.assertEqual(refusal_of(dalumiveth.plan, matrix), (25, 0), matrix.shape)
+            for rows in {0, n - 1, n // 2}:
+                matrix = csr(n, [[i] for i in range(rows)])
+                self.assertEqual(refusal_of(dalumiveth.plan, matrix), (25, 0), matrix.shape)
+        for rows in (0, 3, 2049, 2**32 + 4, 2**64, 2**70):
+            self.assertEqual(refusal_of(dalumiveth.plan, four_fields()[0]._replace(shape=(rows, 4))), (25, 0), rows)
+
+    def test_25_after_1_and_before_2(self):
+        """n and the entries are judged before the row count, and the row count before row starts of any number."""
+        for shape in ((2, 0), (2049, 0), (0, 1025), (2049, 1025), (0, 2**70), (2**70, 2**70)):
+            self.assertEqual(refusal_of(dalumiveth.plan, four_fields()[0]._replace(shape=shape)), (1, 0), shape)
+        self.assertEqual(refusal_of(dalumiveth.plan, four_fields()[0]._replace(shape=(3, 4)), most=3), (1, 0))
+        many = csr(8, [range(8)] * 2049)
+        self.assertEqual(refusal_of(dalumiveth.plan, many), (1, 0))
+        self.assertEqual(refusal_of(dalumiveth.plan, many._replace(indices=many.indices[:16384])), (25, 0))
+        for indptr in ([], [1, 2, 4, 6, 9], [0, 4, 2, 6, 9]):
+            for rows, number in ((3, 25), (4, 2), (5, 2), (2048, 2), (2049, 25)):
+                spoilt = four_fields()[0]._replace(indptr=np.array(indptr), shape=(rows, 4))
+                self.assertEqual(refusal_of(dalumiveth.plan, spoilt), (number, 0), (rows, indptr))
 
     def test_7_and_8_room(self):
         matrix = four_fields()[0]
@@ -47,6 +77,20 @@ class OfPatterns(unittest.TestCase):
         self.assertEqual(refusal_of(dalumiveth.plan, matrix, room=(1, 2)), (7, 2))
         self.assertEqual(refusal_of(dalumiveth.plan, matrix, room=(2, 0)), (8, 1))
         self.assertEqual(refusal_of(dalumiveth.plan, matrix, room=(2, 1)), (8, 2))
+
+    def test_room_of_tall_patterns(self):
+        """Every row of a full rectangle has its slots, n(n-1)/2 + n (rows - n) of L: as many as are ever needed."""
+        for n, rows in ((1, 1), (1, 2048), (3, 4), (8, 2048), (90, 180), (128, 128)):
+            matrix = csr(n, [range(n)] * rows, np.random.default_rng(n).standard_normal(rows * n))
+            plan = dalumiveth.plan(matrix)
+            self.assertEqual((plan.counts.l_slots, plan.counts.u_slots), (n * (n - 1) // 2 + n * (rows - n), n * (n - 1) // 2))
+            self.assertEqual((plan.counts.l_subscripts, plan.counts.u_subscripts), (rows - 1, n - 1))
+            self.assertIsNone(refusal_of(plan.run, matrix, np.ones(rows), steps=n))
+            self.assertIsNone(refusal_of(dalumiveth.plan, matrix, room=(rows - 1, n - 1)))
+            if rows > 1:
+                self.assertEqual(refusal_of(dalumiveth.plan, matrix, room=(rows - 2, n - 1)), (7, 1))
+            if n > 1:
+                self.assertEqual(refusal_of(dalumiveth.plan, matrix, room=(rows - 1, n - 2)), (8, 1))
 
 
 class OfPlans(unittest.TestCase):
@@ -73,6 +117,13 @@ class OfPlans(unittest.TestCase):
     def test_6_other_n(self):
         self.assertEqual(self.refused(self.plan, diagonal(5)), (6, 0))
 
+    def test_6_other_rows(self):
+        """The plan's starts would do, the work stores go by the row count."""
+        for rows in (5, 8, 2048):
+            taller = csr(4, [[0, 2], [1, 3], [0, 2], [1, 2, 3]] + [[]] * (rows - 4), self.matrix.data)
+            self.assertEqual(self.refused(self.plan, taller), (6, 0))
+            self.assertEqual(self.refused(dalumiveth.plan(taller)), (6, 0))
+
     def test_9_tampered_stores(self):
         self.assertIsNone(refusal_of(self.plan.verify))
         for name, store in self.plan.stores._asdict().items():
@@ -94,7 +145,7 @@ class OfPlans(unittest.TestCase):
     def test_9_by_the_rule_before(self):
         """Document 02, ticket 5: the lists of the third step stand at the stores' ends, put there by the first; laid anew they are another plan."""
         plan = dalumiveth.plan(csr(4, [[0], [1], [2], [0, 2, 3]], np.ones(6)))
-        self.assertEqual(tuple(plan.counts), (4, 6, 1, 2, 2, 3, 21))
+        self.assertEqual(tuple(plan.counts), (4, 4, 6, 1, 2, 2, 3, 21))
         self.assertEqual([store.tolist() for store in plan.stores], [[4], [0, 1, 0, 1], [0, 1, 1, 2, 2], [3, 4], [0, 2, 1, 2], [0, 2, 2, 3, 3]])
         self.assertIsNone(refusal_of(plan.verify))
         anew = {"l_subs": [4, 4], "l_starts": [0, 1, 1, 2], "u_subs": [3, 4, 4], "u_starts": [0, 2, 2, 3]}
@@ -191,6 +242,155 @@ class OfRuns(unittest.TestCase):
         self.assertEqual(refusal_of(self.plan.run, spoilt, np.ones(3)), (10, 0))
         self.assertEqual(refusal_of(self.plan.run, spoilt, self.right, [0]), (11, 0))
         self.assertEqual(refusal_of(self.plan.run, np.zeros(9), self.right, [0]), (12, 0))
+
+
+class OfTallRuns(unittest.TestCase):
+    """Two fields, five equations."""
+
+    def setUp(self):
+        self.matrix, self.right = seen_twice()
+        self.plan = dalumiveth.plan(self.matrix)
+
+    def refused(self, *arguments, **named):
+        return refusal_of(self.plan.run, *arguments, **named)
+
+    def test_26_whole(self):
+        """A run that is cut to n steps is no whole run."""
+        for rows in (None, [0, 1], [4, 4], [0]):
+            self.assertEqual(self.refused(self.matrix, self.right, rows), (26, 0))
+        self.assertEqual(refusal_of(self.plan.solve, self.matrix, self.right), (26, 0))
+        self.assertEqual(refusal_of(self.plan.solve, self.matrix, np.ones((5, 2))), (26, 0))
+        self.assertEqual(refusal_of(dalumiveth.splu(self.matrix).solve, self.right), (26, 0))
+        for steps in (0, 1, 2):
+            self.assertIsNone(self.refused(self.matrix, self.right, steps=steps))
+            self.assertIsNone(self.refused(self.matrix, self.right, [4, 4], steps))
+
+    def test_26_for_one_row_more(self):
+        for n in (1, 2, 1024):
+            for rows in (n, n + 1):
+                matrix = csr(n, [[i] for i in range(n)] + [[]] * (rows - n), np.ones(n))
+                plan = dalumiveth.plan(matrix)
+                self.assertEqual(refusal_of(plan.run, matrix, np.ones(rows)), None if rows == n else (26, 0))
+                self.assertIsNone(refusal_of(plan.run, matrix, np.ones(rows), steps=n))
+
+    def test_26_before_9(self):
+        """Whatever plan is lent, and whatever is wrong with the numbers."""
+        other = csr(2, [[0, 1], [1], [], [], [0]], np.ones(4))
+        spoilt = np.full(6, np.nan)
+        for rows in (None, [9]):
+            self.assertEqual(self.refused(other, np.ones(5), rows), (26, 0))
+            self.assertEqual(self.refused(spoilt, np.ones(4), rows), (26, 0))
+            self.assertEqual(self.refused(other, np.ones(4), rows, 3), (9, 0))
+            self.assertEqual(self.refused(spoilt, np.ones(4), rows, 3), (10, 0))
+            self.assertEqual(self.refused(spoilt, np.ones(5), rows, 3), (11, 0))
+        for name, count in self.plan.counts._asdict().items():
+            for wrong in (count + 1, 0, 2**60):
+                plan = dalumiveth.Plan(self.plan.pattern, self.plan.counts._replace(**{name: wrong}), self.plan.stores)
+                self.assertEqual(refusal_of(plan.run, self.matrix, self.right), (26, 0), name)
+                self.assertEqual(refusal_of(plan.run, self.matrix, self.right, steps=2), (9, 0), name)
+
+    def test_26_after_6(self):
+        """A pattern without a plan, and one of another row count."""
+        for rows, number in (([[0], [0], [], [], []], 5), ([[0, 1], [1], [2], [], []], 3), ([[0, 1], [1], [0], [0, 0], []], 4), ([[0, 1], [1], [0]], 6)):
+            matrix = csr(2, rows, np.ones(sum(map(len, rows))))
+            for steps in (None, 2):
+                self.assertEqual(self.refused(matrix, np.ones(len(rows)), None, steps), (number, 0))
+
+    def test_12(self):
+        """A listed row may be any up to the last one; the list's length and the steps keep n."""
+        for rows in ([0, 1], [3, 3], [4, 4], [3, 4], [4, 1]):
+            self.assertEqual(self.plan.run(self.matrix, self.right, rows, 2).pivot_rows.tolist(), rows)
+        self.assertEqual(self.refused(self.matrix, self.right, [0, 2], 2), (13, 2))  # the row without an entry
+        for rows in ([5, 1], [0, 5], [0, 0], [2**62, 1], [0], [0, 1, 2], [0, 1, 2, 3, 4], []):
+            for steps in (0, 1, 2):
+                self.assertEqual(self.refused(self.matrix, self.right, rows, steps), (12, 0), rows)
+        for steps in (3, 5, 6, 2**64):
+            self.assertEqual(self.refused(self.matrix, self.right, steps=steps), (12, 0))
+
+    def test_10(self):
+        """The right side goes by the row count."""
+        for places in (0, 2, 4, 6):
+            self.assertEqual(self.refused(self.matrix, np.ones(places), steps=2), (10, 0))
+
+    def test_11(self):
+        """A right side of an empty row is judged too."""
+        for place in range(5):
+            right = self.right.copy()
+            right[place] = np.inf
+            self.assertEqual(self.refused(self.matrix, right, steps=0), (11, 0))
+
+    def test_13_and_14(self):
+        """A column without a pivot in any row; one that only a row beyond n has; a row beyond n whose right side is not finite."""
+        matrix = csr(2, [[0], [1], [], [1]], [1.0, 0, 0])
+        plan = dalumiveth.plan(matrix)
+        self.assertEqual(refusal_of(plan.run, matrix, np.ones(4), steps=2), (13, 2))
+        beyond = np.array([1.0, 0, -2.0**-1022])
+        self.assertEqual(plan.run(beyond, np.ones(4), steps=2).pivot_rows.tolist(), [0, 3])
+        self.assertEqual(refusal_of(plan.run, beyond, np.ones(4), [0, 1], 2), (13, 2))
+        overflowing = csr(1, [[0], [0]], [1.0, -1.0])
+        right = np.full(2, 1.7e308)
+        self.assertEqual(refusal_of(dalumiveth.plan(overflowing).run, overflowing, right, steps=1), (14, 1))
+
+
+class OfTallStores(unittest.TestCase):
+    """The exported functions themselves: which lengths go by n and which by the row count."""
+
+    N, HEIGHT = 2, 5
+
+    def stores(self, lengths, kind):
+        return [np.full(length, 7, dtype=kind) for length in lengths]
+
+    def each_length_changed(self, lengths):
+        """The lengths, each in turn one shorter, one longer, and where it goes by one count, by the other."""
+        for store, length in enumerate(lengths):
+            for other in {length - 1, length + 1, length - self.HEIGHT + self.N, length - self.N + self.HEIGHT} - {length}:
+                yield [*lengths[:store], max(other, 0), *lengths[store + 1:]]
+
+    def planned(self, fixed, work):
+        pattern = dalumiveth.plan(seen_twice()[0]).pattern
+        l_subs, u_subs = self.stores((20, 20), USIZE)
+        starts, spare = self.stores(fixed, USIZE), self.stores(work, USIZE)
+        answer = np.full(12, 7, dtype=USIZE)
+        kept = [l_subs, *starts[:2], u_subs, *starts[2:]]
+        number = call("dalumiveth_plan", 1024, self.N, self.HEIGHT, *lend(pattern.starts, pattern.columns, *kept, *spare, answer))
+        self.assertFalse(any(store.any() for store in spare))
+        self.assertEqual(any(store.any() for store in kept), number == 0)
+        self.assertEqual(answer.tolist(), [number, 0, *([0] * 8 if number else dalumiveth.plan(seen_twice()[0]).counts), 0, 0])
+        return number
+
+    def test_plan(self):
+        fixed, work = [self.N, self.N + 1] * 2, [self.HEIGHT + 1] * 4 + [self.HEIGHT] * 2
+        self.assertEqual(self.planned(fixed, work), 0)
+        for lengths in self.each_length_changed(fixed):
+            self.assertEqual(self.planned(lengths, work), 6, lengths)
+        for lengths in self.each_length_changed(work):
+            self.assertEqual(self.planned(fixed, lengths), 6, lengths)
+
+    def ran(self, results, work, right):
+        """By the largest entry, cut to n steps; every store is dirty before."""
+        matrix, plan = seen_twice()[0], dalumiveth.plan(seen_twice()[0])
+        lent = (*lend(plan.pattern.starts, plan.pattern.columns), *plan._lent_plan)
+        reals, pivots = self.stores(results[:4], float), self.stores(results[4:], USIZE)
+        spare = [*self.stores(work[:6], USIZE), *self.stores(work[6:], float)]
+        answer = np.full(3, 7, dtype=USIZE)
+        system = (*lend(matrix.data, np.ones(right)), 0, *lend(np.zeros(0, dtype=USIZE)), 1, self.N)
+        number = call("dalumiveth_run", 1024, self.N, self.HEIGHT, *lent, *system, *lend(*reals, *pivots, *spare, answer))
+        self.assertFalse(any(store.view(USIZE).any() for store in spare))
+        self.assertEqual(any(store.view(USIZE).any() for store in (*reals, *pivots)), number == 0)
+        self.assertEqual(answer.tolist()[:2], [number, 0])
+        return number
+
+    def test_run(self):
+        """6 for a work store, 10 for a right side, solution, diagonal or pivot rows."""
+        results, work = [7, 1, self.N, self.HEIGHT, self.N], [self.HEIGHT + 1] * 4 + [self.HEIGHT] * 3 + [self.HEIGHT + 1]
+        self.assertEqual(self.ran(results, work, self.HEIGHT), 0)
+        for lengths in self.each_length_changed(work):
+            self.assertEqual(self.ran(results, lengths, self.HEIGHT), 6, lengths)
+            self.assertEqual(self.ran(results, lengths, self.N), 6, lengths)
+        for lengths in self.each_length_changed(results[2:]):
+            self.assertEqual(self.ran([*results[:2], *lengths], work, self.HEIGHT), 10, lengths)
+        for right in (self.N, self.HEIGHT - 1, self.HEIGHT + 1):
+            self.assertEqual(self.ran(results, work, right), 10)
 
 
 class OfJobs(unittest.TestCase):
@@ -375,11 +575,11 @@ class Sentences(unittest.TestCase):
     def test_of_requests(self):
         """The header's words."""
         header = dict(re.findall(r'case ([0-9]+): return "(.*)";', (ROOT / "include" / "dalumiveth.h").read_text()))
-        for number, where in ((23, "load"), (27, "tally"), (28, "offset"), (29, "offset")):
+        for number, where in ((23, "load"), (25, "pattern"), (26, "run"), (27, "tally"), (28, "offset"), (29, "offset")):
             self.assertEqual(dalumiveth.SENTENCES[number], (where, header[str(number)]))
 
     def test_every_one(self):
-        self.assertEqual(sorted(dalumiveth.SENTENCES), [*range(1, 20), 23, 27, 28, 29])
+        self.assertEqual(sorted(dalumiveth.SENTENCES), [*range(1, 20), 23, *range(25, 30)])
         for number in dalumiveth.SENTENCES:
             refusal = dalumiveth.Refusal(number, 7)
             self.assertIn(refusal.sentence, str(refusal))

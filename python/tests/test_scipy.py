@@ -58,6 +58,28 @@ class SciPy(unittest.TestCase):
         x = dalumiveth.plan(matrix, add_diagonal=True).solve(matrix, np.array([2.0, 4.0]))
         self.assertEqual(x.tolist(), [1.0, 1.0])
 
+    def test_tall(self):
+        """In every format: the first n rows give a solution of the chosen equations, and below is by how much the others are missed."""
+        random = np.random.default_rng(12)
+        matrix = sparse.csr_matrix(sparse.vstack((self.matrix, sparse.random(35, 40, density=0.1, random_state=4), sparse.csr_matrix((5, 40)))))
+        right = random.standard_normal(80)
+        plan = dalumiveth.plan(matrix)
+        run = plan.run(matrix, right, steps=40)
+        x = sparse.linalg.spsolve_triangular(run.U, run.x[:40], lower=False)
+        equations = np.arange(80)
+        for k, p in enumerate(run.pivot_rows):
+            equations[[k, p]] = equations[[p, k]]
+        missed = (right - matrix @ x)[equations]
+        self.assertTrue(np.allclose(missed[:40], 0) and np.allclose(missed[40:], run.x[40:]))
+        self.assertTrue(np.any(run.pivot_rows >= 40))
+        for other in (matrix.tocsc(), matrix.tocoo(), matrix.tolil(), sparse.csr_array(matrix)):
+            again = dalumiveth.plan(other).run(other, right, steps=40)
+            self.assertEqual((bits(again.rectangle()), bits(again.x)), (bits(run.rectangle()), bits(run.x)), type(other))
+            self.assertEqual(refusal_of(plan.run, other, right), (26, 0))
+        self.assertEqual((run.L.shape, run.U.shape, run.L.nnz + run.U.nnz - 40), ((80, 40), (40, 40), run.nnz))
+        self.assertEqual(refusal_of(dalumiveth.plan, matrix.T), (25, 0))
+        self.assertEqual(refusal_of(dalumiveth.plan, matrix[:39]), (25, 0))
+
     def test_other_types(self):
         with self.assertRaisesRegex(TypeError, "data has dtype float32"):
             dalumiveth.splu(self.matrix.astype(np.float32))

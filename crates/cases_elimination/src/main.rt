@@ -2,7 +2,7 @@
 // every place of every result store (a sum over the places of a long one), and whether the work stores are zero. tools/cases_elimination.py writes
 // the requests, and what a dense program of another author answers to them, into the files stdin and stdout.
 //
-// A request: 36 head words of four bytes (`request` lists them), the lists in two bytes a number, values and right side as the eight bytes of
+// A request: 38 head words of four bytes (`request` lists them), the lists in two bytes a number, values and right side as the eight bytes of
 // an f64; low byte first.
 mod request;
 mod runs;

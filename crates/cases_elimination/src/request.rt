@@ -1,19 +1,21 @@
 // One request: its head, the lists and numbers that it lends.
 //
-// The head words: most, n; the lengths of the row starts and the columns; the lent plan's seven counts; the lengths of its six stores; of the row
-// list, the values, the right side; whether the rows are by list, whether the run is cut, and to how many steps; the lengths of the five result
-// stores; of the eight work stores.
+// The head words: most, n, the row count; the lengths of the row starts and the columns; the lent plan's eight counts; the lengths of its six stores;
+// of the row list, the values, the right side; whether the rows are by list, whether the run is cut, and to how many steps; the lengths of the five
+// result stores; of the eight work stores.
 use crate::runs;
 use crate::show;
 use crate::words;
 
-pub const HEAD: usize = 36;
+pub const HEAD: usize = 38;
 
 const ENTRIES: usize = 16_400;
 
 const SUBSCRIPTS: usize = 16_400;
 
 pub const PLACES: usize = 1_040;
+
+pub const ROWS: usize = 2_064;
 
 // What every lent place holds before the call. It is not zero, so that a store which the call left alone shows.
 pub const BEFORE: usize = 54_321;
@@ -70,12 +72,12 @@ fn lend_plan(head: &[usize; HEAD], starts: &[usize], columns: &[usize]) -> bool 
     let mut u_subs = [BEFORE; SUBSCRIPTS];
     let mut u_starts = [BEFORE; PLACES];
     let mut u_slots = [BEFORE; PLACES];
-    let lower = read(&mut l_subs, head, 11)
-        & read(&mut l_starts, head, 12)
-        & read(&mut l_slots, head, 13);
-    let upper = read(&mut u_subs, head, 14)
-        & read(&mut u_starts, head, 15)
-        & read(&mut u_slots, head, 16);
+    let lower = read(&mut l_subs, head, 13)
+        & read(&mut l_starts, head, 14)
+        & read(&mut l_slots, head, 15);
+    let upper = read(&mut u_subs, head, 16)
+        & read(&mut u_starts, head, 17)
+        & read(&mut u_slots, head, 18);
     let all = lower & upper;
     if !all {
         return false;
@@ -84,12 +86,12 @@ fn lend_plan(head: &[usize; HEAD], starts: &[usize], columns: &[usize]) -> bool 
         head,
         starts,
         columns,
-        front(&l_subs, head, 11),
-        front(&l_starts, head, 12),
-        front(&l_slots, head, 13),
-        front(&u_subs, head, 14),
-        front(&u_starts, head, 15),
-        front(&u_slots, head, 16),
+        front(&l_subs, head, 13),
+        front(&l_starts, head, 14),
+        front(&l_slots, head, 15),
+        front(&u_subs, head, 16),
+        front(&u_starts, head, 17),
+        front(&u_slots, head, 18),
     )
 }
 
@@ -105,12 +107,12 @@ fn lend_numbers(
     u_starts: &[usize],
     u_slots: &[usize],
 ) -> bool {
-    let mut rows = [BEFORE; PLACES];
+    let mut rows = [BEFORE; ROWS];
     let mut values = [BEFORE_NUMBER; ENTRIES];
-    let mut right = [BEFORE_NUMBER; PLACES];
-    let all = read(&mut rows, head, 17)
-        & read_numbers(&mut values, head, 18)
-        & read_numbers(&mut right, head, 19);
+    let mut right = [BEFORE_NUMBER; ROWS];
+    let all = read(&mut rows, head, 19)
+        & read_numbers(&mut values, head, 20)
+        & read_numbers(&mut right, head, 21);
     if !all {
         return false;
     }
@@ -124,22 +126,22 @@ fn lend_numbers(
         u_subs,
         u_starts,
         u_slots,
-        front(&rows, head, 17),
-        front_numbers(&values, head, 18),
-        front_numbers(&right, head, 19),
+        front(&rows, head, 19),
+        front_numbers(&values, head, 20),
+        front_numbers(&right, head, 21),
     );
     true
 }
 
 // Reads and lends the pattern.
 fn lend_pattern(head: &[usize; HEAD]) -> bool {
-    let mut starts = [BEFORE; PLACES];
+    let mut starts = [BEFORE; ROWS];
     let mut columns = [BEFORE; ENTRIES];
-    let all = read(&mut starts, head, 2) & read(&mut columns, head, 3);
+    let all = read(&mut starts, head, 3) & read(&mut columns, head, 4);
     if !all {
         return false;
     }
-    lend_plan(head, front(&starts, head, 2), front(&columns, head, 3))
+    lend_plan(head, front(&starts, head, 3), front(&columns, head, 4))
 }
 
 // Reads and answers one request. It answers whether to go on: not at the end of the input, and not after a bad request.

@@ -4,6 +4,7 @@ use crate::request::BEFORE;
 use crate::request::BEFORE_NUMBER;
 use crate::request::HEAD;
 use crate::request::PLACES;
+use crate::request::ROWS;
 use crate::show;
 use answers::Extent;
 use answers::PivotChoice;
@@ -35,20 +36,21 @@ fn front_numbers<'a>(store: &'a mut [f64], head: &[usize; HEAD], at: usize) -> &
 // The counts of the lent plan.
 fn counts(head: &[usize; HEAD]) -> PlanCounts {
     let numbers = [
-        head[4],
         head[5],
         head[6],
         head[7],
         head[8],
         head[9],
         head[10],
+        head[11],
+        head[12],
     ];
     counts_from(&numbers)
 }
 
 // How the pivot rows are chosen.
 fn choice(head: &[usize; HEAD]) -> PivotChoice {
-    if head[20] == 0 {
+    if head[22] == 0 {
         return PivotChoice::Largest;
     }
     PivotChoice::Listed
@@ -56,7 +58,7 @@ fn choice(head: &[usize; HEAD]) -> PivotChoice {
 
 // How far the run is to go.
 fn extent(head: &[usize; HEAD]) -> Extent {
-    extent_from(head[21], head[22])
+    extent_from(head[23], head[24])
 }
 
 // The answer about the lent plan, in work stores of its own.
@@ -71,15 +73,16 @@ fn verify(
     u_starts: &[usize],
     u_slots: &[usize],
 ) {
-    let mut row_heads = [BEFORE; PLACES];
-    let mut row_links = [BEFORE; PLACES];
-    let mut set_heads = [BEFORE; PLACES];
-    let mut set_links = [BEFORE; PLACES];
-    let mut list = [BEFORE; PLACES];
-    let mut spare = [BEFORE; PLACES];
+    let mut row_heads = [BEFORE; ROWS];
+    let mut row_links = [BEFORE; ROWS];
+    let mut set_heads = [BEFORE; ROWS];
+    let mut set_links = [BEFORE; ROWS];
+    let mut list = [BEFORE; ROWS];
+    let mut spare = [BEFORE; ROWS];
     show::verified(planning::verify(
         request::word(head, 0),
         request::word(head, 1),
+        request::word(head, 2),
         starts,
         columns,
         counts(head),
@@ -89,12 +92,12 @@ fn verify(
         u_subs,
         u_starts,
         u_slots,
-        front(&mut row_heads, head, 28),
-        front(&mut row_links, head, 29),
-        front(&mut set_heads, head, 30),
-        front(&mut set_links, head, 31),
-        front(&mut list, head, 32),
-        front(&mut spare, head, 33),
+        front(&mut row_heads, head, 30),
+        front(&mut row_links, head, 31),
+        front(&mut set_heads, head, 32),
+        front(&mut set_links, head, 33),
+        front(&mut list, head, 34),
+        front(&mut spare, head, 35),
     ));
 }
 
@@ -109,11 +112,11 @@ fn show_results(
     pivots: &[usize],
 ) {
     show::ran(answer);
-    show::numbers(b"lower", request::front_numbers(l, head, 23));
-    show::numbers(b"upper", request::front_numbers(u, head, 24));
-    show::numbers(b"diagonal", request::front_numbers(diagonal, head, 25));
-    show::numbers(b"solution", request::front_numbers(solution, head, 26));
-    show::rows(b"pivots", request::front(pivots, head, 27));
+    show::numbers(b"lower", request::front_numbers(l, head, 25));
+    show::numbers(b"upper", request::front_numbers(u, head, 26));
+    show::numbers(b"diagonal", request::front_numbers(diagonal, head, 27));
+    show::numbers(b"solution", request::front_numbers(solution, head, 28));
+    show::rows(b"pivots", request::front(pivots, head, 29));
 }
 
 // Whether the first places of a store, as many as a head word asks for, are zero.
@@ -137,10 +140,10 @@ fn show_work(
     copy: &[f64],
     dense: &[f64],
 ) {
-    let rows = zero(row_heads, head, 28) & zero(row_links, head, 29);
-    let sets = zero(set_heads, head, 30) & zero(set_links, head, 31);
-    let lists = zero(list, head, 32) & zero(spare, head, 33);
-    let floats = plus_zero(copy, head, 34) & plus_zero(dense, head, 35);
+    let rows = zero(row_heads, head, 30) & zero(row_links, head, 31);
+    let sets = zero(set_heads, head, 32) & zero(set_links, head, 33);
+    let lists = zero(list, head, 34) & zero(spare, head, 35);
+    let floats = plus_zero(copy, head, 36) & plus_zero(dense, head, 37);
     show::work(rows & sets & lists & floats);
 }
 
@@ -162,19 +165,20 @@ fn run(
     let mut l = [BEFORE_NUMBER; SLOTS];
     let mut u = [BEFORE_NUMBER; SLOTS];
     let mut diagonal = [BEFORE_NUMBER; PLACES];
-    let mut solution = [BEFORE_NUMBER; PLACES];
+    let mut solution = [BEFORE_NUMBER; ROWS];
     let mut pivots = [BEFORE; PLACES];
-    let mut row_heads = [BEFORE; PLACES];
-    let mut row_links = [BEFORE; PLACES];
-    let mut set_heads = [BEFORE; PLACES];
-    let mut set_links = [BEFORE; PLACES];
-    let mut list = [BEFORE; PLACES];
-    let mut spare = [BEFORE; PLACES];
-    let mut copy = [BEFORE_NUMBER; PLACES];
-    let mut dense = [BEFORE_NUMBER; PLACES];
+    let mut row_heads = [BEFORE; ROWS];
+    let mut row_links = [BEFORE; ROWS];
+    let mut set_heads = [BEFORE; ROWS];
+    let mut set_links = [BEFORE; ROWS];
+    let mut list = [BEFORE; ROWS];
+    let mut spare = [BEFORE; ROWS];
+    let mut copy = [BEFORE_NUMBER; ROWS];
+    let mut dense = [BEFORE_NUMBER; ROWS];
     let answer = elimination::run(
         request::word(head, 0),
         request::word(head, 1),
+        request::word(head, 2),
         starts,
         columns,
         counts(head),
@@ -189,19 +193,19 @@ fn run(
         choice(head),
         rows,
         extent(head),
-        front_numbers(&mut l, head, 23),
-        front_numbers(&mut u, head, 24),
-        front_numbers(&mut diagonal, head, 25),
-        front_numbers(&mut solution, head, 26),
-        front(&mut pivots, head, 27),
-        front(&mut row_heads, head, 28),
-        front(&mut row_links, head, 29),
-        front(&mut set_heads, head, 30),
-        front(&mut set_links, head, 31),
-        front(&mut list, head, 32),
-        front(&mut spare, head, 33),
-        front_numbers(&mut copy, head, 34),
-        front_numbers(&mut dense, head, 35),
+        front_numbers(&mut l, head, 25),
+        front_numbers(&mut u, head, 26),
+        front_numbers(&mut diagonal, head, 27),
+        front_numbers(&mut solution, head, 28),
+        front(&mut pivots, head, 29),
+        front(&mut row_heads, head, 30),
+        front(&mut row_links, head, 31),
+        front(&mut set_heads, head, 32),
+        front(&mut set_links, head, 33),
+        front(&mut list, head, 34),
+        front(&mut spare, head, 35),
+        front_numbers(&mut copy, head, 36),
+        front_numbers(&mut dense, head, 37),
     );
     show_results(head, answer, &l, &u, &diagonal, &solution, &pivots);
     show_work(

@@ -2,7 +2,7 @@
 // every place of every result store, and whether the work stores are zero. tools/cases_planning.py writes the requests, and what a
 // dense program of another author answers to them, into the files stdin and stdout.
 //
-// A request is words of two bytes, low byte first: 16 head words (`request` lists them), the row starts, the columns.
+// A request is words of two bytes, low byte first: 17 head words (`request` lists them), the row starts, the columns.
 mod request;
 mod show;
 mod words;

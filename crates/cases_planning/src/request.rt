@@ -1,18 +1,20 @@
 // One request: its head, the stores that it asks for, the call and what is shown of it.
 //
-// The head words: most, n; the lengths of the row starts, the columns, the L subscripts, the U subscripts, l_starts, l_slots, u_starts,
-// u_slots, row_heads, row_links, set_heads, set_links, list and spare.
+// The head words: most, n, the row count; the lengths of the row starts, the columns, the L subscripts, the U subscripts, l_starts, l_slots,
+// u_starts, u_slots, row_heads, row_links, set_heads, set_links, list and spare.
 use crate::show;
 use crate::words;
 
-// The longest parts that can be asked for: each one place past what a pattern of 1,025 rows or of 16,385 entries needs, or more.
-const HEAD: usize = 16;
+// The longest parts that can be asked for: each one place past what a pattern of 1,025 columns, of 2,049 rows or of 16,385 entries needs, or more.
+const HEAD: usize = 17;
 
 const COLUMNS: usize = 16_400;
 
 const SUBSCRIPTS: usize = 16_400;
 
 const PLACES: usize = 1_040;
+
+const ROWS: usize = 2_064;
 
 // What every lent place holds before the call. It is not zero, so that a store which the call left alone shows.
 const BEFORE: usize = 54_321;
@@ -43,13 +45,14 @@ fn part<'a>(store: &'a [usize], head: &[usize; HEAD], at: usize) -> &'a [usize] 
     &store[0..asked]
 }
 
-// The longest length that head word `at` may give; `most` and n are no lengths, and any word will do.
+// The longest length that head word `at` may give; `most`, n and the row count are no lengths, and any word will do.
 fn longest(at: usize) -> usize {
     match at {
-        0 | 1 => 65_535,
-        3 => COLUMNS,
-        4 | 5 => SUBSCRIPTS,
-        _ => PLACES,
+        0 | 1 | 2 => 65_535,
+        4 => COLUMNS,
+        5 | 6 => SUBSCRIPTS,
+        7 | 8 | 9 | 10 => PLACES,
+        _ => ROWS,
     }
 }
 
@@ -75,12 +78,12 @@ fn show_results(
     u_starts: &[usize],
     u_slots: &[usize],
 ) {
-    show::store(b"l_subs", part(l_subs, head, 4));
-    show::store(b"l_starts", part(l_starts, head, 6));
-    show::store(b"l_slots", part(l_slots, head, 7));
-    show::store(b"u_subs", part(u_subs, head, 5));
-    show::store(b"u_starts", part(u_starts, head, 8));
-    show::store(b"u_slots", part(u_slots, head, 9));
+    show::store(b"l_subs", part(l_subs, head, 5));
+    show::store(b"l_starts", part(l_starts, head, 7));
+    show::store(b"l_slots", part(l_slots, head, 8));
+    show::store(b"u_subs", part(u_subs, head, 6));
+    show::store(b"u_starts", part(u_starts, head, 9));
+    show::store(b"u_slots", part(u_slots, head, 10));
 }
 
 // Whether the first places of a store, as many as a head word asks for, are zero.
@@ -98,9 +101,9 @@ fn show_work(
     list: &[usize],
     spare: &[usize],
 ) {
-    let rows = zero(row_heads, head, 10) & zero(row_links, head, 11);
-    let sets = zero(set_heads, head, 12) & zero(set_links, head, 13);
-    show::work(rows & sets & zero(list, head, 14) & zero(spare, head, 15));
+    let rows = zero(row_heads, head, 11) & zero(row_links, head, 12);
+    let sets = zero(set_heads, head, 13) & zero(set_links, head, 14);
+    show::work(rows & sets & zero(list, head, 15) & zero(spare, head, 16));
 }
 
 // Plans the pattern in parts of arrays of its own, of the lengths that the head asks for, and shows all of them.
@@ -111,29 +114,30 @@ fn plan(head: &[usize; HEAD], starts: &[usize], columns: &[usize]) {
     let mut u_subs = [BEFORE; SUBSCRIPTS];
     let mut u_starts = [BEFORE; PLACES];
     let mut u_slots = [BEFORE; PLACES];
-    let mut row_heads = [BEFORE; PLACES];
-    let mut row_links = [BEFORE; PLACES];
-    let mut set_heads = [BEFORE; PLACES];
-    let mut set_links = [BEFORE; PLACES];
-    let mut list = [BEFORE; PLACES];
-    let mut spare = [BEFORE; PLACES];
+    let mut row_heads = [BEFORE; ROWS];
+    let mut row_links = [BEFORE; ROWS];
+    let mut set_heads = [BEFORE; ROWS];
+    let mut set_links = [BEFORE; ROWS];
+    let mut list = [BEFORE; ROWS];
+    let mut spare = [BEFORE; ROWS];
     let answer = planning::plan(
         word(head, 0),
         word(head, 1),
+        word(head, 2),
         starts,
         columns,
-        front(&mut l_subs, head, 4),
-        front(&mut l_starts, head, 6),
-        front(&mut l_slots, head, 7),
-        front(&mut u_subs, head, 5),
-        front(&mut u_starts, head, 8),
-        front(&mut u_slots, head, 9),
-        front(&mut row_heads, head, 10),
-        front(&mut row_links, head, 11),
-        front(&mut set_heads, head, 12),
-        front(&mut set_links, head, 13),
-        front(&mut list, head, 14),
-        front(&mut spare, head, 15),
+        front(&mut l_subs, head, 5),
+        front(&mut l_starts, head, 7),
+        front(&mut l_slots, head, 8),
+        front(&mut u_subs, head, 6),
+        front(&mut u_starts, head, 9),
+        front(&mut u_slots, head, 10),
+        front(&mut row_heads, head, 11),
+        front(&mut row_links, head, 12),
+        front(&mut set_heads, head, 13),
+        front(&mut set_links, head, 14),
+        front(&mut list, head, 15),
+        front(&mut spare, head, 16),
     );
     show::answer(answer);
     show_results(
@@ -170,12 +174,12 @@ fn read_pattern(head: &[usize; HEAD], starts: &mut [usize], columns: &mut [usize
 
 // Lends room for the pattern: parts of arrays of its own, of the lengths that the head gives.
 fn lend_pattern(head: &[usize; HEAD]) -> bool {
-    let mut starts = [BEFORE; PLACES];
+    let mut starts = [BEFORE; ROWS];
     let mut columns = [BEFORE; COLUMNS];
     read_pattern(
         head,
-        front(&mut starts, head, 2),
-        front(&mut columns, head, 3),
+        front(&mut starts, head, 3),
+        front(&mut columns, head, 4),
     )
 }
 

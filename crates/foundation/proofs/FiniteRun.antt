@@ -84,12 +84,14 @@ place-finite m u place was sound =
     by-test (isZero u) (λ f. rw (e, f) was)
     (λ f. rw (e, f) (update-finite m u place (rw f at (sound e)))))
 
+-- each row below the pivot is sound in a step that is
+pub row-judged : (height n k : ℕ) (square : Square Float) (right : ℕ → Float) → soundStep height n k square right ≡ true
+    → (i : ℕ) → k < i → i ≤ height → soundRow n k square right i ≡ true
+unfolding soundStep
+row-judged height n k square right judged i low high = all-in i (soundRow n k square right) (between (suc k) height) judged (in-between i (suc k) height low high)
+
 module _ (height n k : ℕ) (square : Square Float) (right : ℕ → Float) (at : (1 ≤ k) × (k ≤ height))
     (square-was : FiniteSquare height n square) (right-was : FiniteSide height right) (judged : soundStep height n k square right ≡ true) where
-  row-judged : (i : ℕ) → k < i → i ≤ height → soundRow n k square right i ≡ true
-  unfolding soundStep
-  row-judged i low high = all-in i (soundRow n k square right) (between (suc k) height) judged (in-between i (suc k) height low high)
-
   -- what a row was judged by, where its multiplier is not zero
   updates-judged :
       (i : ℕ) → k < i → i ≤ height → isZero (multiplier k square i) ≡ false
@@ -98,14 +100,14 @@ module _ (height n k : ℕ) (square : Square Float) (right : ℕ → Float) (at 
   updates-judged i low high e =
       by-test (isZero (square i k))
       (λ z. absurd (false≢true (sym e ∙ ap isZero (multiplier-zero k square i z) ∙ z)))
-      (λ z. rw e at (and-right (finite (multiplier k square i)) _ (rw z at (row-judged i low high))))
+      (λ z. rw e at (and-right (finite (multiplier k square i)) _ (rw z at (row-judged height n k square right judged i low high))))
 
   multiplier-finite : (i : ℕ) → k < i → i ≤ height → k ≤ n → finite (multiplier k square i) ≡ true
   unfolding soundRow
   multiplier-finite i low high col =
       by-test (isZero (square i k))
       (λ z. rw (multiplier-zero k square i z) (square-was i k (omega arith, high, at .0, col)))
-      (λ z. and-left (finite (multiplier k square i)) _ (rw z at (row-judged i low high)))
+      (λ z. and-left (finite (multiplier k square i)) _ (rw z at (row-judged height n k square right judged i low high)))
 
   column-judged :
       (i j : ℕ) → k < i → i ≤ height → k < j → j ≤ n → isZero (multiplier k square i) ≡ false

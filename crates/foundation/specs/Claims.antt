@@ -1,7 +1,8 @@
 -- The claims about every elimination, free or float, about the slots, the rows met and the program's room: each one proposition that can be read alone.
 -- Those about offsets in degrees, minutes and seconds stand in Claims/Offsets, those about the tally in Claims/Tallies, those about test loads in Claims/Loads,
 -- those about planning after each of the report's parts 2.1 to 2.5 in Claims/PlanParts.
--- "A pattern that can be planned" is one that passes 1 to 5: its `patternFault` is 0, whatever the largest n.
+-- "A pattern that can be planned" is one that passes 1 to 5, and so 25: its `patternFault` is 0, whatever the largest n. Where a claim speaks of the square, a pattern
+-- with more rows than n has the full rectangle of its rows and n columns in its place (document 02, ticket 9).
 pub mod Offsets
 pub mod Tallies
 pub mod Loads

@@ -1,5 +1,5 @@
 -- The free elimination (document 01, "Free elimination"): demand 3's process. It knows no plan; numbers are of any kind, and only whether
--- one is zero counts.
+-- one is zero counts. Document 02, Ticket 9: "the free elimination then have the full rectangle of that many rows and n columns in place of the square": a row p goes to the last row, k to n.
 use mathlib.Core.Bool.{Bool, cond, not, _&&_}
 use mathlib.Core.List.{List, [], _∷_}
 use Prim.Native.Nat.{ℕ, suc}

@@ -1,4 +1,5 @@
--- The reference elimination on the full square of f64: row by largest magnitude or by a given list, whole or cut to its first s steps.
+-- The reference elimination on the full square of f64, or on the full rectangle (document 02, Ticket 9) where a pattern has more rows than n: row by largest magnitude or by a given list,
+-- whole or cut to its first s steps.
 use mathlib.Core.Bool.{Bool, true, cond, not, _&&_, _||_}
 use mathlib.Core.List.{List, [], _∷_, _++_}
 use Prim.Native.Nat.{ℕ, zero, suc, _+_}
@@ -41,7 +42,8 @@ best entry found [] = found
 best entry found (i ∷ rows) = best entry (better entry found i) rows
 
 -- The row of step k by its column's entries, 0 where there is none. "At step k the pivot row is the row from k to n with the largest
--- magnitude in column k, the lowest row number if equal; or row p_k of a given list." p_k stands at place k-1 of the list. Ticket 14: "13 is given where none is left or the
+-- magnitude in column k, the lowest row number if equal; or row p_k of a given list." p_k stands at place k-1 of the list. Ticket 9: "pivot choice go by the row
+-- count", which is `height`. Ticket 14: "13 is given where none is left or the
 -- listed row is fainter".
 unfoldable pub pivotRow : Choice → ℕ → ℕ → (ℕ → Float) → ℕ
 pivotRow largest height zero entry = 0
@@ -152,7 +154,8 @@ unfoldable pub running : Choice → ℕ → ℕ → Going → ℕ → Course
 running choice height n g zero = going g
 running choice height n g (suc s) = step choice height n (suc s) (running choice height n g s)
 
--- Document 01, "Elimination": "The reference is a full n by n square of f64, +0 outside the pattern." Values and right side are those of the
+-- Document 01, "Elimination": "The reference is a full n by n square of f64, +0 outside the pattern"; document 02, Ticket 9: "the full rectangle of that many rows and n columns in place of
+-- the square". Values and right side are those of the
 -- places and rows; before the first step no row is chosen.
 unfoldable pub starting : Pattern → Square Float → (ℕ → Float) → Going
 unfolding plusZero

@@ -31,7 +31,7 @@ use Rattle.plan_gather.specs.Contains.{used}
 use Rattle.plan_gather.specs.Steps.{countedReads, unmetAt, ChainsAt, EndsAre, chainStores}
 use Rattle.plan_pattern.specs.Sizes.{lengthsFit}
 use Rattle.plan_gather.proofs.Progress.{counted-all, chains-begin}
-use Rattle.plan_gather.proofs.Passing.{ready, fault-starts, fault-height, fault-ready}
+use Rattle.plan_gather.proofs.Passing.{ready, fault-starts, fault-rows, fault-height, fault-ready}
 use Rattle.plan_pattern.proofs.Sizing.{Lengths, fit-lengths, unfit, sizes-fit}
 use Rattle.plan_lay.specs.Filled.{Filled, BothFilled}
 use Rattle.plan_lay.proofs.Filled.{filled-none, filled-contains}
@@ -198,17 +198,11 @@ module _ (most n height : ℕ) (starts columns : List ℕ) (fault : ℕ) (found 
       pub sizes : Lengths n height (length lStarts) (length lSlots) (length uStarts) (length uSlots) (length rowHeads) (length rowLinks) (length setHeads) (length setLinks) (length list) (length spare)
       sizes = fit-lengths _ _ _ _ _ _ _ _ _ _ _ _ (sym is ∙ fits)
 
-      -- the row starts tell how many rows there are
-      starts-long : length starts ≡ suc height
-      starts-long = fault-starts most n height starts columns fault found none
-
-      rows-told : height ≡ lentBy n starts columns .height
-      unfolding lentBy lent
-      rows-told = omega (arith, starts-long)
-
       -- what chaining the rows takes for granted
       pub rows-ask : Ready (lentBy n starts columns) × ((length rowHeads ≡ length starts) × (length rowLinks ≡ length starts))
-      rows-ask = (fault-ready most n height starts columns fault found none, (sizes .row-heads ∙ sym starts-long, sizes .row-links ∙ sym starts-long))
+      rows-ask =
+          let long = fault-starts most n height starts columns fault found none in
+          (fault-ready most n height starts columns fault found none, (sizes .row-heads ∙ sym long, sizes .row-links ∙ sym long))
 
       -- what the steps take for granted
       pub steps-ask :
@@ -219,16 +213,17 @@ module _ (most n height : ℕ) (starts columns : List ℕ) (fault : ℕ) (found 
           → (Ready (lentBy n starts columns) × ChainsAt (lentBy n starts columns) n 0 (chainStores rowHeads′ rowLinks′ setHeads′ setLinks′))
           × (BothFilled (lentBy n starts columns) n 0 (length lSubs′) (length uSubs′) (planStores lSubs′ lStarts′ lSlots′ uSubs′ uStarts′ uSlots′)
           × ((length list ≡ lentBy n starts columns .height) × (length spare ≡ lentBy n starts columns .height)))
-      steps-ask l u rows sets = (
-        (
-          fault-ready most n height starts columns fault found none,
-          chains-begin setHeads setLinks rows (sizes .set-heads ∙ ap suc rows-told) (sizes .set-links ∙ ap suc rows-told) sets,
-        ),
-        (
-          record { lowers = side-begins (sizes .l-starts) (sizes .l-slots) l; uppers = side-begins (sizes .u-starts) (sizes .u-slots) u },
-          (sizes .list-is ∙ rows-told, sizes .spare-is ∙ rows-told),
-        ),
-      )
+      steps-ask l u rows sets =
+          let told = fault-rows most n height starts columns fault found none in (
+            (
+              fault-ready most n height starts columns fault found none,
+              chains-begin setHeads setLinks rows (sizes .set-heads ∙ ap suc told) (sizes .set-links ∙ ap suc told) sets,
+            ),
+            (
+              record { lowers = side-begins (sizes .l-starts) (sizes .l-slots) l; uppers = side-begins (sizes .u-starts) (sizes .u-slots) u },
+              (sizes .list-is ∙ told, sizes .spare-is ∙ told),
+            ),
+          )
 
       -- the answer to the steps' ending, and what stands in the stores
       pub steps-end :

@@ -40,9 +40,13 @@ module _ (most n height : ℕ) (starts columns : List ℕ) (fault : ℕ) (found 
   fault-starts = fitted n height starts columns (passes-starts most (lent n height starts columns) passes) .count
 
   -- so its row starts tell how many rows it has
+  pub fault-rows : height ≡ lentBy n starts columns .height
+  unfolding lentBy lent
+  fault-rows = omega (arith, fault-starts)
+
   pub fault-height : lent n height starts columns ≡ lentBy n starts columns
-  unfolding lentBy
-  fault-height = ap (λ (rows : ℕ). lent n rows starts columns) (omega (arith, fault-starts))
+  unfolding lentBy lent
+  fault-height = ap (λ (rows : ℕ). lent n rows starts columns) fault-rows
 
   -- it is ready
   pub fault-ready : Ready (lentBy n starts columns)

@@ -23,6 +23,7 @@ use Rattle.foundation.specs.Slots.{slotIn, hasSlot}
 use Rattle.foundation.specs.Square.{Square}
 use Rattle.foundation.specs.Shown.{atSide}
 use Rattle.foundation.specs.Reference.{multiplier, reduced, eliminated, eliminatedRight, updatesAt, soundUpdate, soundPlace, soundRow, soundStep}
+use Rattle.foundation.proofs.FiniteRun.{row-judged}
 use Rattle.foundation.proofs.FloatSteps.{zero-plus-zero, multiplier-zero, reduced-left, reduced-right, eliminated-above, eliminated-left, eliminated-column, eliminated-right, eliminated-zero}
 use Rattle.run_slots.specs.Index.{limit, Grid}
 use Rattle.run_slots.specs.Shows.{InSlots}
@@ -78,10 +79,6 @@ and-five true true true t u = refl
 and-five true true false t u = refl
 and-five true false r t u = refl
 and-five false q r t u = refl
-
-step-rows : (height n k i : ℕ) (square : Square Float) (right : ℕ → Float) → soundStep height n k square right ≡ true → k < i → i ≤ height → soundRow n k square right i ≡ true
-unfolding soundStep
-step-rows height n k i square right e l u = all-in i (soundRow n k square right) (between (suc k) height) e (in-between i (suc k) height l u)
 
 pub nonzeros-map : (f : ℕ → Float) (xs : List ℕ) → nonzeros (map f xs) ≡ total (λ x. cond (isZero (f x)) 0 1) xs
 unfolding nonzeros total
@@ -258,9 +255,9 @@ module _ (s : Planning) (n height : ℕ) (g : Grid s n height) (square : Square 
               | yes a ↦ rw (eliminated-left k square i j a) (h .sound i j)
               | no a ↦ elim (decLt k j) [
                 | yes b ↦ by-test (member j (kept s upper k))
-                    (λ w. row-parts i (sym (sound-row i l) ∙ step-rows height n k i square right e l (row-bound k i m)) .2 j b (column-bound k j w))
+                    (λ w. row-parts i (sym (sound-row i l) ∙ row-judged height n k square right e i l (row-bound k i m)) .2 j b (column-bound k j w))
                     (λ w. rw (column-stays s n height g square h k i j b w) (h .sound i j))
-                | no b ↦ let q : j ≡ k = omega arith in rw (q, eliminated-column k square i l) (row-parts i (sym (sound-row i l) ∙ step-rows height n k i square right e l (row-bound k i m)) .0)
+                | no b ↦ let q : j ≡ k = omega arith in rw (q, eliminated-column k square i l) (row-parts i (sym (sound-row i l) ∙ row-judged height n k square right e i l (row-bound k i m)) .0)
               ]
             ])
             (λ m. rw (row-stays s n height g square h k i j m) (h .sound i j))
@@ -271,7 +268,7 @@ module _ (s : Planning) (n height : ℕ) (g : Grid s n height) (square : Square 
     right-next e i = by-test (member i (kept s lower k))
         (λ m.
         let l = above s n height g lower k i m in
-        row-parts i (sym (sound-row i l) ∙ step-rows height n k i square right e l (row-bound k i m)) .1)
+        row-parts i (sym (sound-row i l) ∙ row-judged height n k square right e i l (row-bound k i m)) .1)
         (λ m. elim (decLt k i) [
           | yes l ↦ rw (zero-multiplier i l m, and-false (ltb k i)) (right-sound i)
           | no l ↦ rw (le-ltb k i (omega arith)) (right-sound i)

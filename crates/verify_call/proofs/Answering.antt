@@ -26,7 +26,7 @@ use Rattle.plan_gather.specs.Steps.{unmetAt, ChainsAt, EndsAre, chainStores}
 use Rattle.plan_pattern.specs.Sizes.{lengthsFit}
 use Rattle.plan_gather.proofs.Progress.{counted-all, chains-begin}
 use Rattle.plan_pattern.proofs.Sizing.{fit-lengths, sizes-fit}
-use Rattle.plan_gather.proofs.Passing.{ready, fault-starts, fault-height, fault-ready}
+use Rattle.plan_gather.proofs.Passing.{ready, fault-starts, fault-rows, fault-height, fault-ready}
 use Rattle.verify_loop.specs.Progress.{BothContain}
 use Rattle.verify_loop.proofs.Progress.{contains-same, same-contains, LentSizes}
 
@@ -147,13 +147,6 @@ module _ (most n height : ℕ) (starts columns : List ℕ) (counts : PlanCounts)
     same-pattern : pattern ≡ lentBy n starts columns
     same-pattern = fault-height most n height starts columns fault told passed
 
-    starts-long : length starts ≡ suc height
-    starts-long = fault-starts most n height starts columns fault told passed
-
-    rows-told : height ≡ lentBy n starts columns .height
-    unfolding lentBy lent
-    rows-told = omega (arith, starts-long)
-
     ready-inside : Ready (lentBy n starts columns)
     ready-inside = fault-ready most n height starts columns fault told passed
 
@@ -172,7 +165,8 @@ module _ (most n height : ℕ) (starts columns : List ℕ) (counts : PlanCounts)
       pub verify-rows-ask : Ready (lentBy n starts columns) × ((length rowHeads ≡ length starts) × (length rowLinks ≡ length starts))
       verify-rows-ask =
           let f = fit-lengths n height _ _ _ _ _ _ _ _ _ _ (sym tested ∙ fitted) in
-          (ready-inside, (f .row-heads ∙ sym starts-long, f .row-links ∙ sym starts-long))
+          let long = fault-starts most n height starts columns fault told passed in
+          (ready-inside, (f .row-heads ∙ sym long, f .row-links ∙ sym long))
 
       -- what the steps take for granted
       pub verify-steps-ask :
@@ -180,9 +174,10 @@ module _ (most n height : ℕ) (starts columns : List ℕ) (counts : PlanCounts)
           → Zeros setHeads setHeads′ × Zeros setLinks setLinks′
           → (Ready (lentBy n starts columns) × ChainsAt (lentBy n starts columns) n 0 (chainStores rowHeads′ rowLinks′ setHeads′ setLinks′)) × LentSizes n (lentBy n starts columns .height) lStarts lSlots uStarts uSlots list spare
       verify-steps-ask rows sets =
-          let f = fit-lengths n height _ _ _ _ _ _ _ _ _ _ (sym tested ∙ fitted) in (
-            (ready-inside, chains-begin setHeads setLinks rows (f .set-heads ∙ ap suc rows-told) (f .set-links ∙ ap suc rows-told) sets),
-            (f .l-starts, f .l-slots, f .u-starts, f .u-slots, f .list-is ∙ rows-told, f .spare-is ∙ rows-told),
+          let f = fit-lengths n height _ _ _ _ _ _ _ _ _ _ (sym tested ∙ fitted) in
+          let by-starts = fault-rows most n height starts columns fault told passed in (
+            (ready-inside, chains-begin setHeads setLinks rows (f .set-heads ∙ ap suc by-starts) (f .set-links ∙ ap suc by-starts) sets),
+            (f .l-starts, f .l-slots, f .u-starts, f .u-slots, f .list-is ∙ by-starts, f .spare-is ∙ by-starts),
           )
 
       -- place n of the starts of the slots can be read

@@ -6,10 +6,11 @@ use Rattle.foundation.specs.Answer.{Answer}
 use Rattle.foundation.specs.Pattern.{Lent, lentSquare}
 use Rattle.foundation.specs.Plan.{Planning, lower, upper}
 use Rattle.foundation.specs.Subscripts.{startsStore}
-use Rattle.foundation.specs.PlanCall.{Counts, SideStores, WorkSizes, subscripts, sameCounts, held}
+use Rattle.foundation.specs.PlanCall.{Counts, SideStores, WorkSizes, countNumbers, subscripts, sameCounts, held}
 use Rattle.foundation.specs.Table.{Case, case, told}
 use Rattle.foundation.specs.Cases.Show.{flags, refusalNumber, row}
 use Rattle.foundation.specs.Cases.PlanCall.{fiveFields, stores, work, fittingSizes, ninesIn}
+use Rattle.lists.specs.Sets.{upto}
 
 -- the plan of the five fields as it is lent: its counts, L's stores, U's stores
 abbrev pub rightCounts : List ℕ
@@ -130,4 +131,6 @@ lentPlanCases =
     -- count for count: each of eight differs
     ∷ row (flags (map (λ i. sameCounts (countsFrom rightCounts) (countsFrom (onemore i rightCounts))) (0 ∷ 1 ∷ 2 ∷ 3 ∷ 4 ∷ 5 ∷ 6 ∷ 7 ∷ 8 ∷ [])))
     (0 ∷ 0 ∷ 0 ∷ 0 ∷ 0 ∷ 0 ∷ 0 ∷ 0 ∷ 1 ∷ [])
+    -- told in their order
+    ∷ row (countNumbers (countsFrom (upto 8))) (1 ∷ 2 ∷ 3 ∷ 4 ∷ 5 ∷ 6 ∷ 7 ∷ 8 ∷ [])
     ∷ []

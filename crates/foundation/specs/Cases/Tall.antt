@@ -1,4 +1,4 @@
--- More rows than columns (document 02, ticket 9): 25, the diagonals of rows above n, lists, lengths, 26 and 12, a cut run.
+-- More rows than columns (document 02, ticket 9): 25, the diagonals of rows above n, lists, lengths, 26 and 12, cut runs.
 use mathlib.Core.List.{List, [], _∷_, _++_, map}
 use Prim.Native.Nat.{ℕ}
 use Rattle.foundation.specs.Answer.{Answer}
@@ -35,6 +35,10 @@ tallRun p choice s values right = courseShown p (reference choice (cut s) (patte
 -- rows {1,2}, {2}, {1}, {} on two columns
 abbrev pub fourOnTwo : Lent
 fourOnTwo = lent 2 4 (0 ∷ 2 ∷ 3 ∷ 4 ∷ 4 ∷ []) (1 ∷ 2 ∷ 2 ∷ 1 ∷ [])
+
+-- three rows on two columns, all places present
+abbrev pub fullThree : Lent
+fullThree = lent 2 3 (0 ∷ 2 ∷ 4 ∷ 6 ∷ []) (1 ∷ 2 ∷ 1 ∷ 2 ∷ 1 ∷ 2 ∷ [])
 
 -- with other rows, starts and columns
 abbrev pub judgedAs : ℕ → List ℕ → List ℕ → ℕ
@@ -149,7 +153,35 @@ tallCases =
     ∷ (0x4008000000000000 ∷ 0xBFE0000000000000 ∷ 0x4012000000000000 ∷ 0x4010000000000000 ∷ [])
     ∷ (3 ∷ 3 ∷ [])
     ∷ [])
-    -- the same on the whole rectangle
+    -- "pivot choice go by the row count": row 3 has the largest entry of column 1, row 2 then that of column 2; cut to one step, pivot rows are 0 behind it
+    ∷ case (leaves tallFits (run largest (cut 1) tallFits))
+    ((0x3FE0000000000000 ∷ 0x3FF0000000000000 ∷ [])
+    ∷ (0 ∷ [])
+    ∷ (0x4018000000000000 ∷ 0x4014000000000000 ∷ [])
+    ∷ (0x4008000000000000 ∷ 0x4000000000000000 ∷ 0xBFE0000000000000 ∷ 0x4010000000000000 ∷ [])
+    ∷ (3 ∷ 0 ∷ [])
+    ∷ [])
+    ∷ case (leaves tallFits (run largest (cut 2) tallFits))
+    ((0x3FE0000000000000 ∷ 0x3FC999999999999A ∷ [])
+    ∷ (0 ∷ [])
+    ∷ (0x4018000000000000 ∷ 0x4014000000000000 ∷ [])
+    ∷ (0x4008000000000000 ∷ 0x4000000000000000 ∷ 0xBFECCCCCCCCCCCCD ∷ 0x4010000000000000 ∷ [])
+    ∷ (3 ∷ 2 ∷ [])
+    ∷ [])
+    -- (2, -0), (1, 1), (4, 3) with right side 1, -0, 2: row 3 is exchanged with row 1 and then with row 2; multipliers stay where they were written
+    ∷ case
+    (tallRun fullThree largest 2
+    (0x4000000000000000 ∷ 0x8000000000000000 ∷ 0x3FF0000000000000 ∷ 0x3FF0000000000000 ∷ 0x4010000000000000 ∷ 0x4008000000000000 ∷ [])
+    (0x3FF0000000000000 ∷ 0x8000000000000000 ∷ 0x4000000000000000 ∷ []))
+    ((1 ∷ [])
+    ∷ (2 ∷ [])
+    ∷ (3 ∷ 3 ∷ [])
+    ∷ (0x4010000000000000 ∷ 0x4008000000000000 ∷ [])
+    ∷ (0x3FD0000000000000 ∷ 0xBFF8000000000000 ∷ [])
+    ∷ (0x3FE0000000000000 ∷ 0xBFC5555555555555 ∷ [])
+    ∷ (0x4000000000000000 ∷ 0 ∷ 0xBFE0000000000000 ∷ [])
+    ∷ [])
+    -- the listed run of four rows on the whole rectangle
     ∷ case (tallRun fourOnTwo (listed (3 ∷ 3 ∷ [])) 2 tallValues tallRight)
     ((1 ∷ [])
     ∷ (0 ∷ [])
