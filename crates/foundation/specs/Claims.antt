@@ -265,7 +265,7 @@ PlannedRunsAlike =
 
 -- ---- the pivot row of a step
 
--- Document 01, "Elimination": r is "the row from k to n with the largest magnitude in column k, the lowest row number if equal", n being `last`: it lies
+-- Document 01, "Elimination": r is "the row from k to n with the largest magnitude in column k, the lowest row number if equal", `last` being n, by document 02's ticket 9 the row count: it lies
 -- there and its entry may serve, no entry there has a larger magnitude, and each before it has a smaller one. Document 02, Ticket 14: "choice among rows
 -- passes over the rest, and 13 is given where none is left": r is 0 just where no entry there may serve.
 pub record LargestFrom (k last : ℕ) (entry : ℕ → Float) (r : ℕ) : Type 0 where

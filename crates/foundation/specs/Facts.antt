@@ -13,7 +13,7 @@ use Rattle.foundation.specs.Subscripts.{kept, soleStep, shared, opened}
 use Rattle.foundation.specs.Closed.{Closed}
 
 -- A pattern that can be planned: what passing 1 to 5 gives. Document 01, "Pattern": columns are 1 to n, "strictly ascending in each row.
--- Every diagonal place is present."
+-- Every diagonal place is present." Document 02, ticket 9: "Rows above n need no diagonal and may be empty".
 pub record Plannable (p : Pattern) : Type 0 where
   pub ascending : (i : ℕ) → 1 ≤ i → i ≤ p .height → Ascending 1 (p .row i)
   pub bounded : (i j : ℕ) → 1 ≤ i → i ≤ p .height → member j (p .row i) ≡ true → j ≤ p .n

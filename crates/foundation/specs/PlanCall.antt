@@ -144,8 +144,8 @@ agrees p s q =
     sameCounts (q .counts) (countsOf p s)
     && (sameSide s lower (p .n) (q .stores .lowerSide) && sameSide s upper (p .n) (q .stores .upperSide))
 
--- 1 to 5, 6, then 9: this pattern's plan, if the lent one is it. Between them 26, "before 9", where a caller asks for what a tall pattern has not: `may` says
--- that it does not.
+-- 1 to 5, 6, then 9: this pattern's plan, if the lent one is it. Between them 26, "before 9": `may` is false where a system with more
+-- rows than n is to be solved.
 unfoldable pub heldIf : Bool → ℕ → Lent → LentPlan → WorkSizes → Answer Planning
 heldIf may most p q work =
     andThen (judged most p)

@@ -126,7 +126,7 @@ diagonalAfter n room answer = resultStore plusZero room (λ r. shownDiagonal n (
 
 -- "the solution store has the right side (whole: the solution)"
 unfoldable pub solutionAfter : ℕ → ℕ → Answer Ran → List Float
-solutionAfter n room answer = resultStore plusZero room (λ r. map (r .end .right) (upto n)) answer
+solutionAfter height room answer = resultStore plusZero room (λ r. map (r .end .right) (upto height)) answer
 
 -- "pivot rows are p_k up to the last step done and 0 after it"
 unfoldable pub pivotsAfter : ℕ → Answer Ran → List ℕ

@@ -22,7 +22,7 @@ pub record Within (low high : ℕ) (xs : List ℕ) : Type 0 where
   pub ascending : Ascending low xs
   pub bounded : (x : ℕ) → member x xs ≡ true → x ≤ high
 
--- a list has grown at the front of a store of n places
+-- a list has grown at the front of a store of so many places, n, which is the row count wherever it is cited
 pub record GrownIn (n count : ℕ) (growing xs : List ℕ) : Type 0 where
   pub store-size : length growing ≡ n
   pub size : count ≡ length xs

@@ -1,4 +1,4 @@
-// Judging what a call is lent: refusals 1 to 6.
+// Judging what a call is lent: refusals 1 to 6 and 25.
 mod judge;
 
 pub use judge::lengths_fit;

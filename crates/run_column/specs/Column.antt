@@ -21,7 +21,7 @@ overPivot pivot v = cond (isZero v) v (quotient v pivot)
 unfoldable pub rewritten : List ℕ → (ℕ → Float) → (ℕ → Float) → ℕ → Float
 rewritten rows new old i = cond (member i rows) (new i) (old i)
 
--- A store of n places, one for each row, in which those of some rows are written anew; the flag tells whether they are finite.
+-- A store of n places, for the rows 1 to n (all rows of the right side; of the diagonal those that have one), in which those of some rows are written anew; the flag tells whether they are finite.
 pub record Rewritten (old new : ℕ → Float) (rows : List ℕ) (n flag : ℕ) (store : List Float) (r : ℕ) : Type 0 where
   pub is : store ≡ map (rewritten rows new old) (upto n)
   pub flags : r ≡ flagged flag (all (λ i. finite (new i)) rows)

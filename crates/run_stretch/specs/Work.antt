@@ -16,7 +16,7 @@ ClearBut subs store = (x : ℕ) → x < length store → member x subs ≡ false
 unfoldable pub Spread : List ℕ → List Float → List Float → Type 0
 Spread subs values store = (f : ℕ → Float) → values ≡ map f subs → (x : ℕ) → x < length store → getD store x nan ≡ cond (member x subs) (f x) plusZero
 
--- a work store of n+1 places that has a list's values at its members and +0 elsewhere
+-- a work store with a place for 0 and each number up to n, the row count of a run, that has a list's values at its members and +0 elsewhere
 pub record Dense (n : ℕ) (list : List ℕ) (value : ℕ → Float) (store : List Float) : Type 0 where
   pub size : length store ≡ n + 1
   pub has : (x : ℕ) → x ≤ n → getD store x nan ≡ cond (member x list) (value x) plusZero

@@ -40,14 +40,14 @@ fourOnTwo = lent 2 4 (0 ∷ 2 ∷ 3 ∷ 4 ∷ 4 ∷ []) (1 ∷ 2 ∷ 2 ∷ 1 ∷
 abbrev pub fullThree : Lent
 fullThree = lent 2 3 (0 ∷ 2 ∷ 4 ∷ 6 ∷ []) (1 ∷ 2 ∷ 1 ∷ 2 ∷ 1 ∷ 2 ∷ [])
 
--- with other rows, starts and columns
+-- what is found wrong with two columns and so many rows, starts and columns
 abbrev pub judgedAs : ℕ → List ℕ → List ℕ → ℕ
 judgedAs rows starts columns = patternFault 1024 (lent 2 rows starts columns)
 
+-- of `fourOnTwo`: the work stores' lengths, and its plan as it is lent, counts, L's stores, U's stores
 abbrev pub fitting : WorkSizes
 fitting = work (4 ∷ []) (5 ∷ []) (4 ∷ [])
 
--- its plan, lent: counts, L's stores, U's stores
 abbrev pub tallPlan : List ℕ → LentPlan
 tallPlan counts =
     record {
@@ -87,8 +87,8 @@ tallCases =
     -- "Row starts (..) go by the row count": one fewer, one more; the last is that of the last row
     ∷ row
     (map (λ starts. judgedAs 4 starts (1 ∷ 2 ∷ 2 ∷ 1 ∷ []))
-    ((0 ∷ 2 ∷ 3 ∷ 4 ∷ 4 ∷ []) ∷ (0 ∷ 2 ∷ 3 ∷ 4 ∷ []) ∷ (0 ∷ 2 ∷ 3 ∷ 4 ∷ 4 ∷ 4 ∷ []) ∷ (0 ∷ 2 ∷ 4 ∷ 4 ∷ 3 ∷ []) ∷ (0 ∷ 2 ∷ 3 ∷ 3 ∷ 3 ∷ []) ∷ []))
-    (0 ∷ 2 ∷ 2 ∷ 2 ∷ 2 ∷ [])
+    ((0 ∷ 2 ∷ 3 ∷ 4 ∷ 4 ∷ []) ∷ (0 ∷ 2 ∷ 4 ∷ []) ∷ (0 ∷ 2 ∷ 3 ∷ 4 ∷ []) ∷ (0 ∷ 2 ∷ 3 ∷ 4 ∷ 4 ∷ 4 ∷ []) ∷ (0 ∷ 2 ∷ 4 ∷ 4 ∷ 3 ∷ []) ∷ (0 ∷ 2 ∷ 3 ∷ 3 ∷ 3 ∷ []) ∷ []))
+    (0 ∷ 2 ∷ 2 ∷ 2 ∷ 2 ∷ 2 ∷ [])
     -- "Rows above n need no diagonal and may be empty"; row n needs it; 3 and 4 in a row above n
     ∷ row
     (judgedAs 3 (0 ∷ 1 ∷ 2 ∷ 2 ∷ []) (1 ∷ 2 ∷ [])
@@ -110,8 +110,16 @@ tallCases =
     -- 6: "work stores (..) go by the row count", n and n+1 are none of their lengths; starts stores are as before
     ∷ row
     (map (λ sizes. refusalNumber (planned 1024 fourOnTwo (stores (ninesIn 1 2 3) (ninesIn 2 2 3)) sizes))
-    (fitting ∷ work (2 ∷ []) [] [] ∷ work [] (3 ∷ []) [] ∷ work [] [] (5 ∷ []) ∷ []))
-    (0 ∷ 6 ∷ 6 ∷ 6 ∷ [])
+    (fitting
+    ∷ work (2 ∷ []) [] []
+    ∷ work (3 ∷ []) [] []
+    ∷ work (5 ∷ []) [] []
+    ∷ work [] (3 ∷ []) []
+    ∷ work [] (4 ∷ []) []
+    ∷ work [] (6 ∷ []) []
+    ∷ work [] [] (5 ∷ [])
+    ∷ []))
+    (0 ∷ 6 ∷ 6 ∷ 6 ∷ 6 ∷ 6 ∷ 6 ∷ 6 ∷ [])
     ∷ row (refusalNumber (planned 1024 fourOnTwo (stores (ninesIn 1 4 5) (ninesIn 2 4 5)) fitting) ∷ []) (6 ∷ [])
     -- "solving with more rows than n is 26, before 9", after 6; a cut to n is no solving
     ∷ row
@@ -130,12 +138,16 @@ tallCases =
     ∷ row
     (map (refusedBy largest (cut 2))
     (lend tallValues (0 ∷ 0 ∷ []) 4 2 2 2 1
+    ∷ lend tallValues (0 ∷ 0 ∷ 0 ∷ []) 4 2 2 2 1
+    ∷ lend tallValues (0 ∷ tallRight) 4 2 2 2 1
     ∷ lend tallValues tallRight 2 2 2 2 1
+    ∷ lend tallValues tallRight 3 2 2 2 1
+    ∷ lend tallValues tallRight 5 2 2 2 1
     ∷ lend tallValues tallRight 4 4 2 2 1
     ∷ lend tallValues tallRight 4 2 4 2 1
     ∷ lend tallValues tallRight 4 2 2 1 1
     ∷ []))
-    (10 ∷ 10 ∷ 10 ∷ 10 ∷ 10 ∷ [])
+    (10 ∷ 10 ∷ 10 ∷ 10 ∷ 10 ∷ 10 ∷ 10 ∷ 10 ∷ 10 ∷ [])
     -- "12 taking the row count as the upper bound of p_k and keeping n for the list's length and for s"
     ∷ row
     (map (λ rows. refusedBy (listed rows) (cut 0) tallFits) ((4 ∷ 4 ∷ []) ∷ (5 ∷ 2 ∷ []) ∷ (1 ∷ 5 ∷ []) ∷ (1 ∷ 1 ∷ []) ∷ (1 ∷ 2 ∷ 3 ∷ 4 ∷ []) ∷ (1 ∷ []) ∷ []))
