@@ -3,7 +3,7 @@
 use mathlib.Core.Bool.{Bool, true, false, ◌&&◌, or-true, false≢true}
 use mathlib.Core.List.{List, [], ◌∷◌}
 use mathlib.Core.Logic.{◌⊎◌, inl, inr}
-use mathlib.Core.Path.{◌≡◌, refl, sym, ◌∙◌}
+use mathlib.Core.Path.{◌≡◌, refl, subst, sym, ◌∙◌}
 use Prim.Native.Nat.{ℕ, zero, suc, ◌+◌, ◌≤◌, ◌<◌}
 use native.Mathlib.Decide.{dec_lt}
 use native.Mathlib.Omega.{arith}
@@ -11,7 +11,7 @@ use lib.Dec.{eqb, ltb, leb}
 use borrow.Author.Tests.{eqb-true, ltb-true, ltb-false, leb-true, eq-eqb, lt-ltb, le-leb}
 use Rattle.lists.specs.Functions.{keep}
 use Rattle.lists.specs.Sets.{member, first, least_above}
-use Rattle.lists.proofs.Members.{by_test, or_true_cases}
+use Rattle.lists.proofs.Members.{member_tail, by_test, or_true_cases}
 use Rattle.foundation.specs.Closed.{Closed, Places, Involved, StepOn, Ahead, Held}
 use Rattle.foundation.specs.Pattern.{Pattern, present}
 use Rattle.foundation.specs.Slots.{slot_in}
@@ -30,14 +30,20 @@ above_head : (k y : ℕ) (ys : List ℕ) → ltb k y ≡ true → Above k (y ∷
 unfolding member least_above first keep
 above_head k y ys t = inr (rw t (omega (arith, ltb-true k y t)), rw (t, eq-eqb y y refl))
 
+least_above_tail : (k y : ℕ) (ys : List ℕ) → ltb k y ≡ false → least_above k (y ∷ ys) ≡ least_above k ys
+unfolding least_above keep
+least_above_tail k y ys t = rw t refl
+
 above_tail : (k y : ℕ) (ys : List ℕ) → ltb k y ≡ false → Above k ys → Above k (y ∷ ys)
-unfolding member least_above first keep
+unfolding member
 above_tail k y ys t (inl none) = inl (λ x m h. refuse x h (or_true_cases (eqb x y) (member x ys) m))
   where
     refuse : (x : ℕ) → k < x → (eqb x y ≡ true) ⊎ (member x ys ≡ true) → ⊥
     refuse x h (inl e) = omega (arith, eqb-true x y e, ltb-false k y t)
     refuse x h (inr m) = none x m h
-above_tail k y ys t (inr found) = inr (rw t found.0, simp (t, found.1, or-true))
+above_tail k y ys t (inr found) =
+    let same = least_above_tail k y ys t in
+    inr (rw same found.0, subst (λ (x : ℕ). member x (y ∷ ys) ≡ true) (sym same) (member_tail (least_above k ys) y ys found.1))
 
 above : (k : ℕ) (xs : List ℕ) → Above k xs
 unfolding member
