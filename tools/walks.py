@@ -148,9 +148,39 @@ class Function:
         return text
 
     def drop_paths(self, text, paths):
-        for name in paths:
-            text = re.sub(r"\(%s (\w[\w'-]*(?:\.before)*)\)(?=\.)" % re.escape(name), r"\1", text)
-        return text
+        """(start-from-loop E).f is E.f, and a name for a place is the place itself where a field is read."""
+        way = r"(?:%s)" % "|".join(re.escape(p) for p in paths) if paths else r"(?!)"
+        place = r"[A-Za-z][\w'-]*(?:\.before)*"
+        while True:
+            before = text
+            text = re.sub(r"\(%s (%s|\(%s %s\))\)(?=\.)" % (way, place, way, place), r"\1", text)
+            if text == before:
+                break
+        roots = {}
+        while True:
+            m = None
+            for m in re.finditer(r"\blet ([A-Za-z][\w'-]*) = ((?:%s )?(?:\((?:%s )?%s\)|%s)) in(\n *| )" % (way, way, place, place), text):
+                name, value = m.group(1), m.group(2)
+                root = re.search(r"([A-Za-z][\w'-]*)(?:\.before)*\)*$", value).group(1)
+                if name in roots or not (way != r"(?!)" and re.match(r"\(?%s " % way, value) or root == "c" or root in roots):
+                    continue
+                roots[name] = roots.get(root, root)
+                start, rest = text[: m.start()], text[m.end():]
+                rest = re.sub(r"(?<![\w.'-])%s(?=\.(?!before))" % re.escape(name), roots[name], rest)
+                if re.search(r"(?<![\w.'-])%s(?![\w'-])" % re.escape(name), rest):
+                    text = start + m.group(0) + rest
+                else:
+                    text = start + rest
+                break
+            else:
+                break
+        while True:
+            for m in re.finditer(r"\blet ([A-Za-z][\w'-]*) = (?:(?:%s )?(?:\((?:%s )?%s\)|%s)) in(?:\n *| )" % (way, way, place, place), text):
+                if not re.search(r"(?<![\w.'-])%s(?![\w'-])" % re.escape(m.group(1)), text[m.end():]):
+                    text = text[: m.start()] + text[m.end():]
+                    break
+            else:
+                return text
 
 
 def read(path):
@@ -172,7 +202,7 @@ def convert(crate_folder, crate, path, table):
     for comment, ls in decls:
         text = "\n".join(ls)
         m = re.match(r"(?:abbrev )?(?:pub )?([\w'₀-₉+-]+)\s*:", text)
-        if m and re.match(r"abbrev ", text) and "-from-" in m.group(1) and "tie." in text:
+        if m and re.match(r"abbrev [\w'-]+\s*:\s*tie\.(?!Need-)[A-Z][\w-]*(?:\s+(?:invariant|decreases)-loop[\w-]*)*\s*→\s*tie\.[A-Z][\w-]*(?:\s+(?:invariant|decreases)-loop[\w-]*)*\s*\n", text):
             paths.append(m.group(1))
     # longer names first, so that none is taken for another
     paths.sort(key=len, reverse=True)
@@ -286,7 +316,8 @@ def convert(crate_folder, crate, path, table):
     abbrevs = []
     order = fn.t["places_by_name"]
     for old, new in sorted(place_names, key=lambda p: order.index(p[1])):
-        abbrevs.append(([], "abbrev %s : Type 0\n%s = lts.%s reads.Pre reads.Post%s" % (new, new, old, given)))
+        claims = " tie.the-claims" if any(p[3] for p in fn.t["places"]) else ""
+        abbrevs.append(([], "abbrev %s : Type 0\n%s = lts.%s%s reads.Pre reads.Post%s" % (new, new, old, claims, given)))
     folder = os.path.dirname(source)
     if invariants:
         body = "\n\n".join("\n".join(c + [t]) for c, t in invariants)
@@ -301,7 +332,7 @@ def convert(crate_folder, crate, path, table):
             need.append("use borrow.Author.Rules.{rules}")
         need.append("use %sGoals as goal" % own)
         if abbrevs:
-            need += ["use %sLts as lts" % own, "use %sReads as reads" % own]
+            need += ["use %s%s as %s" % (own, m, m.lower()) for m in ["Lts", "Reads"] + (["Tie"] if claims else [])]
         write(os.path.join(folder, "Answers.antt"), "\n".join(title + need + ["", body, ""]))
     os.remove(source)
     return fn.said

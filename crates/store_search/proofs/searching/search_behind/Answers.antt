@@ -9,21 +9,10 @@ use Rattle.store_search.proofs.Passing.{place_left, passed_none, passed_on, pass
 use Rattle.store_search.proofs.searching.search_behind.Goals as goal
 use Rattle.store_search.proofs.searching.search_behind.Lts as lts
 use Rattle.store_search.proofs.searching.search_behind.Reads as reads
-
-abbrev Start : Type 0
-Start = lts.Start reads.Pre reads.Post goal.the-invariant-loop-b goal.the-decreases-loop-b
-
-abbrev At-loop-b : Type 0
-At-loop-b = lts.At-loop reads.Pre reads.Post goal.the-invariant-loop-b goal.the-decreases-loop-b
+use Rattle.store_search.proofs.searching.search_behind.Tie as tie
 
 abbrev After-place_of : Type 0
-After-place_of = lts.After-place_of reads.Pre reads.Post goal.the-invariant-loop-b goal.the-decreases-loop-b
-
-abbrev start-from-loop : At-loop-b → Start
-start-from-loop c = c.before.before.before.before.before
-
-abbrev loop-from-place-of : After-place_of → At-loop-b
-loop-from-place-of c = c.before.before.before.before.before.before.before.before
+After-place_of = lts.After-place_of tie.the-claims reads.Pre reads.Post goal.the-invariant-loop-b goal.the-decreases-loop-b
 
 pub returns-then-size-eq0 : goal.returns-then-size-eq0
 returns-then-size-eq0 c = (search rules, behind-nothing _ _ c.if-size-eq0.true)
@@ -34,9 +23,9 @@ loop-b-init c = (search rules, search rules, passed_none _ _)
 pub returns-then-last-x : goal.returns-then-last-x
 returns-then-last-x c =
     let at = c.before.before.before.before in
-    let s = start-from-loop at in (
-      at.loop-b.invariant.1,
-      passed_behind s.args.have.now s.args.more.now at.loop-b.a at.loop-b.b at.loop-b.invariant.2 (omega arith)
+    (
+      c.loop-b.invariant.1,
+      passed_behind c.args.have.now c.args.more.now c.loop-b.a c.loop-b.b c.loop-b.invariant.2 (omega arith)
           c.loop-b-test.true c.if-last-x.true,
     )
 
@@ -44,19 +33,18 @@ pub loop-b-preserved-then-have-a : goal.loop-b-preserved-then-have-a
 loop-b-preserved-then-have-a c =
     let in-loop = c.before.before.before.before.before.before in
     let at = in-loop.before in
-    let s = start-from-loop at in (
+    (
       search rules,
       search rules,
-      passed_on s.args.have.now s.args.more.now at.loop-b.a at.loop-b.b at.loop-b.invariant.2 at.loop-b.a (le_refl _) (omega arith)
-          in-loop.loop-b-test.true
+      passed_on c.args.have.now c.args.more.now c.loop-b.a c.loop-b.b c.loop-b.invariant.2 c.loop-b.a (le_refl _) (omega arith)
+          c.loop-b-test.true
           c.if-have-a.true,
     )
 
 -- the place found, counted from the list's begin
 near : (c : After-place_of) → c.loop-b.a + c.place_of.result ≤ length c.args.have.now
 near c =
-    let at-loop = loop-from-place-of c in
-    place_left at-loop.args.have.now _ _ at-loop.loop-b.invariant.0 c.place_of.ensures.0
+    place_left c.args.have.now _ _ c.loop-b.invariant.0 c.place_of.ensures.0
 
 pub overflow_add-near : goal.overflow_add-near
 overflow_add-near c = end_fits (near c.before) c.well_formed.0.1
@@ -70,23 +58,21 @@ bounds-have-near c = short_of (near c.before.before.before) c.if-near-size.false
 pub overflow_add-a-in-loop-b : goal.overflow_add-a-in-loop-b
 overflow_add-a-in-loop-b c =
     let at-place-of = c.before.before.before.before in
-    next_fits (short_of (near at-place-of) c.if-near-size.false) at-place-of.well_formed.0.1
+    next_fits (short_of (near at-place-of) c.if-near-size.false) c.well_formed.0.1
 
 pub loop-b-preserved : goal.loop-b-preserved
 loop-b-preserved c =
     let at-place-of = c.before.before.before.before in
     let in-loop = at-place-of.before.before.before.before.before.before.before in
     let at = in-loop.before in
-    let s = start-from-loop at in
     let inside = short_of (near at-place-of) c.if-near-size.false in
-    let left = in-loop.loop-b-test.true in (
+    let left = c.loop-b-test.true in (
       next_le _ _ inside,
       next_le _ _ left,
-      passed_on s.args.have.now s.args.more.now at.loop-b.a at.loop-b.b at.loop-b.invariant.2 _ (le-add_right _ _) inside left c.if-have-near.false,
+      passed_on c.args.have.now c.args.more.now c.loop-b.a c.loop-b.b c.loop-b.invariant.2 _ (le-add_right _ _) inside left c.if-have-near.false,
     )
 
 pub returns : goal.returns
 returns c =
     let at = c.before.before in
-    let s = start-from-loop at in
-    (at.loop-b.invariant.1, passed_all s.args.have.now s.args.more.now at.loop-b.a at.loop-b.b at.loop-b.invariant.2 (omega arith))
+    (c.loop-b.invariant.1, passed_all c.args.have.now c.args.more.now c.loop-b.a c.loop-b.b c.loop-b.invariant.2 (omega arith))

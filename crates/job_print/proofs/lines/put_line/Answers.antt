@@ -1,0 +1,9 @@
+-- `put_line` meets its contract.
+use Rattle.job_print.proofs.Lining.{line_put}
+use Rattle.job_print.proofs.lines.put_line.Goals as goal
+
+pub returns : goal.returns
+returns c =
+    let at-put-numbers = c.before.before.before.before.before.before.before in
+    line_put _ _ at-put-numbers.put_word-said.ensures c.put_numbers-counted.ensures
+    c.put_byte.ensures
