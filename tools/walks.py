@@ -3,8 +3,9 @@
 
 usage: tools/walks.py CRATE [FUNCTION..]
 
-It asks `rt check --generated DIR --old-names` for the old and the new name of each goal, place and field, and writes both files beside each other; the walk goes. What a
-tactic alone answered (`search rules`, `omega arith`, `tt`, `refl`) is left to the check. It was written for the change to this Rattle, and proves nothing: `rt check` decides.
+It reads each walk as it stood in the commit that the second line of docs/PORT.md names, asks `rt check --generated DIR --old-names` for the old and the new name of each
+goal, place and field, and writes both files. What a tactic alone answered (`search rules`, `omega arith`, `tt`, `refl`) is left to the check. It was written for the
+change to this Rattle and proves nothing: `rt check` decides. What it could not turn it says.
 """
 import json
 import os
@@ -14,173 +15,15 @@ import subprocess
 import sys
 import tempfile
 
-TOKEN = re.compile(r"[A-Za-z_][A-Za-z0-9_'₀-₉]*(?:-[A-Za-z0-9_'₀-₉]+)*")
-TRIVIAL = re.compile(r"^(search rules|omega arith|tt|refl|λ [^.]*\. tt|\((?:search rules|omega arith|tt|refl)(?:, (?:search rules|omega arith|tt|refl))*\))$")
+ROOT = os.path.normpath(os.path.join(os.path.dirname(os.path.abspath(__file__)), ".."))
+NAME = r"[A-Za-zμ_][\w'₀-₉]*(?:-[\w'₀-₉]+)*"
+TRIVIAL_PART = r"(?:search rules|omega arith|tt|refl|λ [^.()]*\. tt|\(\))"
+TRIVIAL = re.compile(r"^(?:%s|\(%s(?:,\s*%s)*,?\s*\))$" % (TRIVIAL_PART, TRIVIAL_PART, TRIVIAL_PART))
+PLACE = re.compile(r"⟪([^⟫]*)⟫")
 
 
 def plain(name):
     return name.replace("_", "-")
-
-
-def names_of(folder):
-    out = tempfile.mkdtemp(prefix="names-")
-    run = subprocess.run(["rt", "check", "--generated", out, "--old-names"], cwd=folder, capture_output=True, text=True)
-    path = os.path.join(out, "names.json")
-    if not os.path.exists(path):
-        sys.exit(run.stdout[-3000:] + run.stderr[-1000:])
-    with open(path) as f:
-        table = json.load(f)
-    shutil.rmtree(out)
-    return table
-
-
-def blocks(text):
-    """The head (comments and use lines) and the declarations, each as (comment, lines)."""
-    lines = text.split("\n")
-    at = 0
-    head = []
-    while at < len(lines) and (lines[at].startswith("--") or lines[at].startswith("use ") or lines[at].startswith("pub use ") or not lines[at].strip()):
-        # a comment right above a declaration belongs to it
-        if lines[at].startswith("--") and head and any(l.startswith("use ") for l in head):
-            break
-        head.append(lines[at])
-        at += 1
-    decls = []
-    for part in re.split(r"\n\n+", "\n".join(lines[at:]).strip("\n")):
-        if not part.strip():
-            continue
-        ls = part.split("\n")
-        comment = []
-        while ls and ls[0].startswith("--"):
-            comment.append(ls.pop(0))
-        decls.append((comment, ls))
-    return head, decls
-
-
-class Function:
-    def __init__(self, crate, path, table):
-        self.crate = crate
-        self.path = path  # a/b/f
-        self.module = path.replace("/", ".")
-        self.t = table
-        self.goal = {plain(o): n for o, n in table["needs"]}
-        self.goals = [n for o, n in table["needs"]]
-        self.places = {}
-        self.fields = {}
-        self.callee = {}
-        for (name, parent, (old, new), called, _), new_name in zip(table["places"], table["places_by_name"]):
-            self.places[plain(name)] = (name, new_name)
-            if old:
-                self.fields[plain(old)] = new
-                if called:
-                    self.callee[plain(old)] = called
-        for (old, new), _ in table["loops"]:
-            self.fields[plain(old)] = new
-        self.params = table["params"]
-        self.said = []
-
-    def field(self, chain):
-        """chain: the projections after a value, as a list. Drops none; renames."""
-        out = []
-        i = 0
-        while i < len(chain):
-            f = chain[i]
-            p = plain(f)
-            if p in self.fields and (i == 0 or chain[i - 1] == "before"):
-                out.append(self.fields[p])
-                called = self.callee.get(p)
-                if called and i + 1 < len(chain) and chain[i + 1] in ("kept", "auto", "last", "new"):
-                    which = "auto" if chain[i + 1] in ("kept", "auto") else "new"
-                    k = i + 2
-                    n = 0
-                    while k < len(chain) and chain[k] == "1":
-                        n += 1
-                        k += 1
-                    params = self.params.get(called)
-                    if params and k < len(chain) and chain[k] == "0" and n < len(params):
-                        out += [which, params[n]]
-                        i = k + 1
-                        continue
-                    out.append(which)
-                    i += 2
-                    continue
-                i += 1
-                continue
-            if f == "well-formed":
-                f = "well_formed"
-            elif f == "inv":
-                f = "invariant"
-            elif f == "pre" and (i == 0 or chain[i - 1] == "before"):
-                f = "requires"
-            elif f == "taken":
-                f = "true"
-            elif i and chain[i - 1] in ("args", "invariant") or i and chain[i - 1] in self.fields.values() or (i and plain(chain[i - 1]) in self.fields):
-                if re.search("-", f) or f.endswith("_lem"):
-                    f = re.sub("_lem$", "", f).replace("-", "_")
-            out.append(f)
-            i += 1
-        return out
-
-    def expression(self, text, top, paths):
-        """Turns an expression. `top` is the name of the goal's own place, or None."""
-        # path helpers first: (start-from-loop E) -> E
-        text = self.drop_paths(text, paths)
-        pattern = re.compile(r"(?<![\w.'-])([A-Za-z_][\w'₀-₉]*(?:-[\w'₀-₉]+)*|\))((?:\.(?:[A-Za-z_«][\w'»₀-₉]*(?:-[\w'₀-₉]+)*|\d+))+)")
-
-        def turn(m):
-            head, chain = m.group(1), m.group(2)[1:].split(".")
-            chain = [c.strip("«»") for c in chain]
-            chain = self.field(chain)
-            last = None
-            for i, f in enumerate(chain):
-                if f == "before":
-                    last = i
-            # flatten: a way back that ends in a field needs no steps
-            if last is not None and last + 1 < len(chain):
-                chain = [f for f in chain[last + 1:]]
-            elif last is not None and head == top:
-                chain = ["before"] + chain
-            return head + "." + ".".join(chain)
-
-        text = pattern.sub(turn, text)
-        if top:
-            text = re.sub(r"(?<![\w.'-])%s(?![\w'.-])" % re.escape(top), top + ".before", text)
-        return text
-
-    def drop_paths(self, text, paths):
-        """(start-from-loop E).f is E.f, and a name for a place is the place itself where a field is read."""
-        way = r"(?:%s)" % "|".join(re.escape(p) for p in paths) if paths else r"(?!)"
-        place = r"[A-Za-z][\w'-]*(?:\.before)*"
-        while True:
-            before = text
-            text = re.sub(r"\(%s (%s|\(%s %s\))\)(?=\.)" % (way, place, way, place), r"\1", text)
-            if text == before:
-                break
-        roots = {}
-        while True:
-            m = None
-            for m in re.finditer(r"\blet ([A-Za-z][\w'-]*) = ((?:%s )?(?:\((?:%s )?%s\)|%s)) in(\n *| )" % (way, way, place, place), text):
-                name, value = m.group(1), m.group(2)
-                root = re.search(r"([A-Za-z][\w'-]*)(?:\.before)*\)*$", value).group(1)
-                if name in roots or not (way != r"(?!)" and re.match(r"\(?%s " % way, value) or root == "c" or root in roots):
-                    continue
-                roots[name] = roots.get(root, root)
-                start, rest = text[: m.start()], text[m.end():]
-                rest = re.sub(r"(?<![\w.'-])%s(?=\.(?!before))" % re.escape(name), roots[name], rest)
-                if re.search(r"(?<![\w.'-])%s(?![\w'-])" % re.escape(name), rest):
-                    text = start + m.group(0) + rest
-                else:
-                    text = start + rest
-                break
-            else:
-                break
-        while True:
-            for m in re.finditer(r"\blet ([A-Za-z][\w'-]*) = (?:(?:%s )?(?:\((?:%s )?%s\)|%s)) in(?:\n *| )" % (way, way, place, place), text):
-                if not re.search(r"(?<![\w.'-])%s(?![\w'-])" % re.escape(m.group(1)), text[m.end():]):
-                    text = text[: m.start()] + text[m.end():]
-                    break
-            else:
-                return text
 
 
 def read(path):
@@ -188,202 +31,538 @@ def read(path):
         return f.read()
 
 
-def convert(crate_folder, crate, path, table):
-    fn = Function(crate, path, table)
-    source = os.path.join(crate_folder, "proofs", path, "Proof.antt")
-    head, decls = blocks(read(source))
-    title = [l for l in head if l.startswith("--")]
-    uses = [l for l in head if l.startswith("use ") or l.startswith("pub use ")]
-    own = "Rattle.%s.proofs.%s." % (crate, fn.module)
-    uses = [l for l in uses if not l.startswith("use " + own)]
-    invariants, answers, helpers, local_names = [], [], [], {}
-    paths = []
-    place_names = set()
-    for comment, ls in decls:
-        text = "\n".join(ls)
-        m = re.match(r"(?:abbrev )?(?:pub )?([\w'₀-₉+-]+)\s*:", text)
-        if m and re.match(r"abbrev [\w'-]+\s*:\s*tie\.(?!Need-)[A-Z][\w-]*(?:\s+(?:invariant|decreases)-loop[\w-]*)*\s*→\s*tie\.[A-Z][\w-]*(?:\s+(?:invariant|decreases)-loop[\w-]*)*\s*\n", text):
-            paths.append(m.group(1))
-    # longer names first, so that none is taken for another
-    paths.sort(key=len, reverse=True)
-
-    def places(text):
-        def put(m):
-            name = m.group(1)
-            if name.startswith("Need-"):
-                return m.group(0)
-            old = fn.places.get(plain(name))
-            if not old:
-                fn.said.append("no place %s" % name)
-                return m.group(0)
-            place_names.add(old)
-            return old[1]
-        return re.sub(r"tie\.([A-Z][\w'₀-₉-]*)((?:\s+(?:invariant|decreases)-loop[\w-]*)*)", put, text)
-
-    for comment, ls in decls:
-        if comment and "Made by tools/name_paths.py" in comment[0] and len(comment) == 1 and not ls:
-            continue
-        comment = [c for c in comment if "name_paths.py" not in c]
-        if not ls:
-            continue
-        text = "\n".join(ls)
-        if "tie.close" in text:
-            continue
-        m = re.match(r"(abbrev )?(pub )?([\w'₀-₉+-]+)\s*:\s*([\s\S]*)", text)
-        if not m:
-            fn.said.append("not read: " + ls[0])
-            continue
-        name = m.group(3)
-        loop = re.match(r"(invariant|decreases)-(loop[\w'-]*)$", name)
-        if m.group(1) and loop and re.search(r":\s*tie\.(invariant|decreases)-", text.split("\n")[0]):
-            kind, which = loop.groups()
-            entry = [(n, v, c) for ((o, n), v), c in zip(fn.t["loops"], fn.t["changed"]) if plain(o) == plain(which)]
-            if not entry:
-                fn.said.append("no loop %s" % which)
-                continue
-            new, variables, changed = entry[0]
-            body = "\n".join(ls[1:])
-            b = re.match(r"(unfolding [^\n]*\n)?%s((?:\s+[\w'₀-₉-]+)*)\s*=\s*([\s\S]*)" % re.escape(name), body)
-            unfolding, given, value = b.group(1) or "", b.group(2).split(), b.group(3)
-            wanted = ["l." + v if not c else "l.initial." + v for v, c in zip(variables, changed)] + ["l." + v for v, c in zip(variables, changed) if c]
-            if len(given) > len(wanted):
-                fn.said.append("%s takes %d of %d" % (name, len(given), len(wanted)))
-            table_of = dict(zip(given, wanted))
-            value = TOKEN.sub(lambda t: table_of.get(t.group(0), t.group(0)) if not value[: t.start()].endswith(".") else t.group(0), value)
-            more = "" if len(given) >= len(wanted) else " " + " ".join("x%d" % i for i in range(len(wanted) - len(given)))
-            if more:
-                fn.said.append("%s takes %d of %d" % (name, len(given), len(wanted)))
-            one = " " if "\n" not in value and len(value) < 100 else "\n    "
-            invariants.append((comment, "abbrev pub %s-%s : goal.%s-%s\n%s%s-%s l =%s%s" % (kind, new, kind, new, unfolding, kind, new, one, value.strip())))
-            continue
-        if name in paths:
-            helpers.append((name, comment, text))
-            continue
-        need = re.match(r"tie\.Need-([\w'₀-₉-]+)", m.group(4))
-        if need:
-            old = plain(need.group(1))
-            new = fn.goal.get(old) or fn.goal.get(re.sub(r"^(overflow|slice-bounds)-", "", old)) or fn.goal.get(old.replace("slice-bounds-", "part-"))
-            body = "\n".join(ls)
-            sig_end = re.search(r"\n(?=(?:unfolding |%s(?:\s|$)))" % re.escape(name), body).end()
-            rest = body[sig_end:]
-            local_names[name] = new
-            answers.append(["goal", comment, name, new, old, rest])
-            continue
-        answers.append(["helper", comment, name, None, None, text])
-
-    # by place in the list where the name is not found
-    listed = [a for a in answers if a[0] == "goal"]
-    if len(listed) == len(fn.goals):
-        for a, g in zip(listed, fn.goals):
-            if a[3] != g:
-                if a[3]:
-                    fn.said.append("%s taken for %s" % (a[4], g))
-                a[3] = g
-    out = []
-    for a in answers:
-        kind, comment, name, new, old, rest = a
-        if kind == "goal":
-            if not new:
-                if old not in [plain(s) for s in fn.t["settled"]]:
-                    fn.said.append("no goal for %s" % old)
-                continue
-            m = re.match(r"((?:unfolding [^\n]*\n(?:    [^\n]*\n)*)?)%s((?:\s+[\w'₀-₉]+)*)\s*=\s*([\s\S]*)" % re.escape(name), rest)
-            if not m:
-                fn.said.append("not read: %s" % rest[:80])
-                continue
-            unfolding, args, body = m.groups()
-            if TRIVIAL.match(body.strip()) and not unfolding:
-                continue
-            args = args.split()
-            body = fn.expression(places(body), args[0] if args else None, paths)
-            one = " " if "\n" not in body and len(body) < 110 else "\n    "
-            out.append((comment, "pub %s : goal.%s\n%s%s %s =%s%s" % (new, new, unfolding, new, " ".join(args), one, body.strip())))
-        else:
-            text = fn.expression(places(rest), None, paths)
-            out.append((comment, text))
-    # helpers for ways back that are still used
-    joined = "\n".join(t for _, t in out)
-    kept = []
-    while True:
-        used = [h for h in helpers if h not in kept and re.search(r"(?<![\w.'-])%s(?![\w'-])" % re.escape(h[0]), joined + "\n".join(x[2].split("=", 1)[1] for x in kept))]
-        if not used:
-            break
-        kept += used
-    kept.sort(key=lambda h: [x[0] for x in helpers].index(h[0]))
-    kept_text = [(c, fn.expression(places(t), None, [])) for n, c, t in kept]
-    invs = sorted({new for (o, new), _ in fn.t["loops"]}, key=[new for (o, new), _ in fn.t["loops"]].index)
-    given = "".join(" goal.the-invariant-%s" % n for n in invs) + "".join(" goal.the-decreases-%s" % n for n in invs)
-    abbrevs = []
-    order = fn.t["places_by_name"]
-    for old, new in sorted(place_names, key=lambda p: order.index(p[1])):
-        claims = " tie.the-claims" if any(p[3] for p in fn.t["places"]) else ""
-        abbrevs.append(([], "abbrev %s : Type 0\n%s = lts.%s%s reads.Pre reads.Post%s" % (new, new, old, claims, given)))
-    folder = os.path.dirname(source)
-    if invariants:
-        body = "\n\n".join("\n".join(c + [t]) for c, t in invariants)
-        need = needed(uses, body)
-        write(os.path.join(folder, "Invariants.antt"), "\n".join(title + need + ["use %sGiven as goal" % own, "", body, ""]))
-    parts = abbrevs + kept_text + out
-    if parts:
-        body = "\n\n".join("\n".join(c + [t]) for c, t in parts)
-        # names of goals that helpers and answers cite of one another
-        need = needed(uses, body)
-        if "search" in body and "rules" in body and not any("rules" in u for u in need):
-            need.append("use borrow.Author.Rules.{rules}")
-        need.append("use %sGoals as goal" % own)
-        if abbrevs:
-            need += ["use %s%s as %s" % (own, m, m.lower()) for m in ["Lts", "Reads"] + (["Tie"] if claims else [])]
-        write(os.path.join(folder, "Answers.antt"), "\n".join(title + need + ["", body, ""]))
-    os.remove(source)
-    return fn.said
-
-
-def needed(uses, body):
-    """The use lines whose names the body has."""
-    words = set(re.findall(r"[^\s(){}\[\];,.]+", body)) | set(TOKEN.findall(body))
-    out = []
-    for line in uses:
-        m = re.match(r"(pub )?use ([^{]*)\.\{([^}]*)\}", line)
-        if not m:
-            out.append(line)
-            continue
-        names = [n.strip() for n in m.group(3).split(",")]
-
-        def used(n):
-            last = n.split(" as ")[-1]
-            if "◌" in last:
-                parts = [p for p in re.split(r"[◌\s]", last) if p]
-                return all(p in body for p in parts)
-            return last in words
-        keep = [n for n in names if used(n)]
-        if keep:
-            out.append("use %s.{%s}" % (m.group(2), ", ".join(keep)))
-    return out
-
-
 def write(path, text):
+    os.makedirs(os.path.dirname(path), exist_ok=True)
     with open(path, "w", encoding="utf-8") as f:
         f.write(text)
 
 
+def clauses():
+    """(crate, function) -> the names of its requires and of its ensures."""
+    found = {}
+    for folder, dirs, names in os.walk(os.path.join(ROOT, "crates")):
+        dirs[:] = [d for d in dirs if d != "out"]
+        for n in names:
+            if not n.endswith(".rt"):
+                continue
+            crate = os.path.relpath(folder, os.path.join(ROOT, "crates")).split(os.sep)[0]
+            fn = None
+            for line in read(os.path.join(folder, n)).split("\n"):
+                m = re.match(r"\s*(?:pub(?:\([^)]*\))? )?(?:unsafe )?(?:extern \"C\" )?fn (\w+)", line)
+                if m:
+                    fn = m.group(1)
+                    found.setdefault((crate, fn), ([], []))
+                m = re.match(r"\s*(requires|ensures)\*?\s*(\w+)?\s*\{", line)
+                if m and fn:
+                    found[(crate, fn)][m.group(1) == "ensures"].append(m.group(2))
+    return found
+
+
+CLAUSES = clauses()
+
+
+def generated(folder):
+    out = tempfile.mkdtemp(prefix="names-")
+    run = subprocess.run(["rt", "check", "--generated", out, "--old-names"], cwd=folder, capture_output=True, text=True)
+    path = os.path.join(out, "names.json")
+    if not os.path.exists(path):
+        sys.exit(run.stdout[-3000:] + run.stderr[-1000:])
+    table = json.loads(read(path))
+    shutil.rmtree(out)
+    out = tempfile.mkdtemp(prefix="made-")
+    subprocess.run(["rt", "check", "--generated", out, "--allow-holes"], cwd=folder, capture_output=True, text=True)
+    return table, out
+
+
+def blocks(text):
+    lines = text.split("\n")
+    at, head = 0, []
+    while at < len(lines) and (lines[at].startswith(("--", "use ", "pub use ")) or not lines[at].strip()):
+        if lines[at].startswith("--") and any(l.startswith("use ") for l in head):
+            break
+        head.append(lines[at])
+        at += 1
+    decls = []
+    for part in re.split(r"\n\n+", "\n".join(lines[at:]).strip("\n")):
+        ls = part.split("\n")
+        comment = []
+        while ls and ls[0].startswith("--"):
+            comment.append(ls.pop(0))
+        comment = [c for c in comment if "name_paths.py" not in c]
+        if ls or comment:
+            decls.append((comment, ls))
+    return head, decls
+
+
+def parts_of(text):
+    """A tuple in brackets as its parts, or None."""
+    text = text.strip()
+    if not text.startswith("("):
+        return None
+    depth, parts, start = 0, [], 1
+    for i, ch in enumerate(text):
+        if ch in "([{":
+            depth += 1
+        elif ch in ")]}":
+            depth -= 1
+            if depth == 0:
+                if text[i + 1:].strip():
+                    return None
+                parts.append(text[start:i])
+                break
+        elif ch == "," and depth == 1:
+            parts.append(text[start:i])
+            start = i + 1
+    if parts and not parts[-1].strip():
+        parts.pop()
+    return [p.strip("\n ") for p in parts] if len(parts) > 1 else None
+
+
+class Function:
+    def __init__(self, crate, path, table, made):
+        self.crate, self.path, self.t = crate, path, table
+        self.module = path.replace("/", ".")
+        self.said = []
+        self.place = {}  # by plain old name: its index
+        for i, p in enumerate(table["places"]):
+            self.place[plain(p[0])] = i
+        self.goals = table["needs"]
+        self.asked = {n: o for (o, n), (o, _) in []}
+        folder = os.path.join(made, "Rattle-%s-proofs" % crate, path)
+        self.lts = read(os.path.join(folder, "Lts.antt")) if os.path.exists(os.path.join(folder, "Lts.antt")) else ""
+        self.tie = read(os.path.join(folder, "Tie.antt")) if os.path.exists(os.path.join(folder, "Tie.antt")) else ""
+        fn = path.split("/")[-1].lstrip("+")
+        self.own = CLAUSES.get((crate, fn), ([], []))
+
+    # ---- places
+
+    def parent(self, i):
+        p = self.t["places"][i][1]
+        return None if p is None else self.place.get(plain(p))
+
+    def up(self, i, k):
+        for _ in range(k):
+            if i is None:
+                return None
+            i = self.parent(i)
+        return i
+
+    def steps(self, i, j):
+        """How many `.before` lead from place i to place j now."""
+        n, at = 0, i
+        while at is not None and at != j:
+            arm = self.t["arms"][at]
+            at = self.up(at, arm[1] if arm else 1)
+            n += 1
+        return n if at == j else None
+
+    def named(self, name):
+        i = self.place.get(plain(name))
+        if i is None:
+            self.said.append("no place %s" % name)
+        return i
+
+    def type_of(self, i):
+        p = self.t["places"][i]
+        return ("Past-" if self.t["arms"][i] else "") + p[0]
+
+    # ---- fields
+
+    def fields(self, at, chain):
+        """The fields that a chain of old ones is now, read at a place."""
+        chain = [c.strip("«»") for c in chain]
+        f = plain(chain[0])
+        f = {"good": "well-formed", "pre": "requires", "inv": "invariant"}.get(f, f)
+        rest = chain[1:]
+        if f == "args":
+            if rest:
+                rest[0] = re.sub("_lem$", "", rest[0]).replace("-", "_")
+            return ["args"] + rest
+        if f == "well-formed":
+            return ["well_formed"] + rest
+        if f == "requires":
+            names = self.own[0]
+            return ["requires"] + self.clause(names, rest)
+        seen = at
+        while seen is not None:
+            arm = self.t["arms"][seen]
+            if arm:
+                for member, step, way in arm[2]:
+                    if plain(step) in (f, plain(re.sub("-lem$", "", f))) and rest[: len(way)] == way:
+                        return [arm[0], member] + rest[len(way):]
+            seen = self.parent(seen)
+        seen = at
+        while seen is not None:
+            name, _, (old, new), called, renamed = self.t["places"][seen]
+            if plain(old) in (f, plain(re.sub("-lem$", "", f))):
+                return self.step(seen, new, called, dict((plain(a), b) for a, b in renamed), rest)
+            seen = self.parent(seen)
+        self.said.append("no field %s at %s" % (".".join(chain), self.t["places_by_name"][at] if at is not None else "?"))
+        return chain
+
+    def clause(self, names, rest):
+        """`.0` of several clauses is the first one's name."""
+        if len(names) < 2 or not rest:
+            return rest
+        k, n = 0, 0
+        if rest[0].isdigit():
+            n = int(rest[0])
+            if n < len(names):
+                return [names[n]] + rest[1:]
+        return rest
+
+    def step(self, place, new, called, renamed, rest):
+        out = [new]
+        if not rest:
+            return out
+        r = {"taken": "true", "left": "false", "inv": "invariant", "kept": "auto", "last": "new", "post": "ensures"}.get(rest[0], rest[0])
+        if plain(rest[0]) in renamed:
+            r = renamed[plain(rest[0])]
+        elif plain(r) in renamed:
+            r = renamed[plain(r)]
+        rest = rest[1:]
+        if called and r in ("auto", "new"):
+            n = 0
+            while rest and rest[0] == "1":
+                n += 1
+                rest = rest[1:]
+            params = self.t["params"].get(called)
+            if rest and rest[0] == "0" and params and n < len(params):
+                return out + [r, params[n]] + rest[1:]
+            return out + [r] + ["1"] * n + rest
+        if called and r == "ensures":
+            bits = called.split("::")
+            names = CLAUSES.get((bits[0], bits[-1]), ([], []))[1]
+            return out + [r] + self.clause(names, rest)
+        if r == "branch":
+            return out + ["branch-raw"] + rest
+        if self.t["places"][place][0].startswith("At-loop") and r not in ("invariant",):
+            r = re.sub("_lem$", "", r).replace("-", "_") if not r.startswith("long-") else r
+        return out + [r] + rest
+
+    # ---- expressions
+
+    def expression(self, text, root, at, wrapped, paths):
+        """Turns an expression in which `root` names the place `at`; `wrapped`: whether its type now has one more `.before`."""
+
+        def places_in(text, name, place):
+            pattern = r"(?<![\w.'-])%s(?![\w'₀-₉-])((?:\.before)*)" % re.escape(name)
+
+            def put(m):
+                k = m.group(1).count(".before")
+                to = self.up(place, k)
+                if to is None:
+                    self.said.append("no way back: %s" % m.group(0))
+                    return m.group(0)
+                return "⟪%d⟫" % to
+            return re.sub(pattern, put, text)
+
+        if root:
+            text = places_in(text, root, at)
+        way = "|".join(re.escape(p) for p in sorted(paths, key=len, reverse=True)) or r"(?!)"
+        while True:
+            old = text
+            text = re.sub(r"\((⟪\d+⟫)\)", r"\1", text)
+            text = re.sub(r"(⟪(\d+)⟫)((?:\.before)+)(?![\w'-])", lambda m: "⟪%s⟫" % self.up(int(m.group(2)), m.group(3).count(".before")), text)
+            text = re.sub(r"(?<![\w.'-])(%s) ⟪\d+⟫(?!\.)" % way, lambda m: "⟪%d⟫" % paths[m.group(1)], text)
+            m = re.search(r"\blet (%s) = ⟪(\d+)⟫ in(?:\n *| )" % NAME, text)
+            if m:
+                text = text[: m.start()] + places_in(text[m.end():], m.group(1), int(m.group(2)))
+            if text == old:
+                break
+        # `⊎_elim (λ x. ..) (λ y. ..) ⟪n⟫.if1.branch`
+        text = self.branches(text)
+
+        def put(m):
+            place, chain = int(m.group(1)), m.group(2)
+            if chain:
+                return "%s.%s" % (root, ".".join(self.fields(place, chain[1:].split("."))))
+            n = self.steps(at, place)
+            if n is None:
+                self.said.append("no steps to %s" % self.t["places_by_name"][place])
+                n = 0
+            return root + ".before" * (n + (1 if wrapped else 0))
+        text = re.sub(r"⟪(\d+)⟫((?:\.[\w'«»₀-₉]+(?:-[\w'₀-₉]+)*)*)", put, text)
+        # names for steps: `let judge = c.judge in` and what follows keeps its fields
+        return text
+
+    def branches(self, text):
+        out, at = "", 0
+        for m in re.finditer(r"⟪(\d+)⟫\.(%s)\.branch(?![\w-])" % NAME, text):
+            pass
+        pattern = re.compile(r"⊎_elim\s*\(λ (%s)\. " % NAME)
+        pos = 0
+        while True:
+            m = pattern.search(text, pos)
+            if not m:
+                return text
+            first_end = self.close(text, text.index("(", m.start()))
+            second = re.compile(r"\s*\(λ (%s)\. " % NAME).match(text, first_end)
+            if not second:
+                pos = m.end()
+                continue
+            second_end = self.close(text, text.index("(", first_end))
+            third = re.compile(r"\s*⟪(\d+)⟫\.(%s)\.branch(?![\w-])" % NAME).match(text, second_end)
+            if not third:
+                pos = m.end()
+                continue
+            place, step = int(third.group(1)), third.group(2)
+            while place is not None and not (self.t["places"][place][0].startswith("Joined") and plain(self.t["places"][place][2][0]) == plain(step)):
+                place = self.parent(place)
+            if place is None:
+                pos = m.end()
+                continue
+            records = re.findall(r"record By-\d+-%s-(\S+) : Type 0 where\n((?:[ \t]+.*\n|\n(?=[ \t]+pub (?!record|data)))*?)\n" % re.escape(self.t["places"][place][0]), self.lts)
+            fields = [re.findall(r"^\s+pub (\S+) :", body, re.M) for _, body in records]
+            pieces = []
+            for k, (v, start, end) in enumerate([(m.group(1), m.start(), first_end), (second.group(1), first_end, second_end)]):
+                piece = text[start:end]
+                names = fields[k] if k < len(fields) else []
+
+                def put(x):
+                    n = int(x.group(1))
+                    if n >= len(names):
+                        self.said.append("no part %d of %s" % (n, names))
+                        return x.group(0)
+                    tail = {".taken": ".true", ".left": ".false"}.get(x.group(2) or "", x.group(2) or "")
+                    if not tail:
+                        return "%s.%s" % (v, names[n])
+                    return "%s.%s%s" % (v, names[n], tail)
+                piece = re.sub(r"(?<![\w.'-])%s\.(\d+)(\.taken|\.left|\.true|\.false)?" % re.escape(v), put, piece)
+                pieces.append(piece)
+            text = text[: m.start()] + pieces[0] + pieces[1] + text[second_end:]
+            pos = m.start() + 7
+
+    @staticmethod
+    def close(text, at):
+        depth = 0
+        for i in range(at, len(text)):
+            if text[i] == "(":
+                depth += 1
+            elif text[i] == ")":
+                depth -= 1
+                if depth == 0:
+                    return i + 1
+        return len(text)
+
+    def record(self, body, names, what):
+        """A tuple of the answers to several clauses becomes a record of their names."""
+        if len(names) < 2 or None in names:
+            return body
+        cut = 0
+        while True:
+            m = re.compile(r"\s*let ").match(body, cut)
+            if not m:
+                break
+            depth, i = 0, m.end()
+            lets = 0
+            while i < len(body):
+                if body[i] in "([{":
+                    depth += 1
+                elif body[i] in ")]}":
+                    depth -= 1
+                elif depth == 0 and re.match(r"\blet ", body[i:]) and not re.match(r"\w", body[i - 1]):
+                    lets += 1
+                elif depth == 0 and re.match(r"in\b", body[i:]) and body[i - 1] in " \n)":
+                    if lets == 0:
+                        break
+                    lets -= 1
+                i += 1
+            if i >= len(body):
+                break
+            cut = i + 2
+        lead, tail = body[:cut], body[cut:]
+        parts = parts_of(tail)
+        if not parts or len(parts) != len(names):
+            self.said.append("%s has several clauses: %s" % (what, ", ".join(names)))
+            return body
+        return lead + (" " if lead and not lead.endswith((" ", "\n")) else "") + "record {\n" + "".join("      %s = %s;\n" % (n, p.strip()) for n, p in zip(names, parts)) + "    }"
+
+
+def convert(folder, crate, path, table, made, source):
+    fn = Function(crate, path, table, made)
+    head, decls = blocks(source)
+    title = [l for l in head if l.startswith("--")]
+    own = "Rattle.%s.proofs.%s." % (crate, fn.module)
+    uses = [l for l in head if l.startswith(("use ", "pub use ")) and not l.startswith("use " + own)]
+    type_pattern = r"tie\.((?!Need-)[A-Z][\w'₀-₉-]*)(?:\s+(?:invariant|decreases)-loop[\w-]*)*"
+    paths = {}
+    for comment, ls in decls:
+        text = "\n".join(ls)
+        m = re.match(r"abbrev (%s)\s*:\s*%s\s*→\s*%s\s*\n\1 (%s) =\s*([\s\S]*)" % (NAME, type_pattern, type_pattern, NAME), text)
+        if m:
+            to = fn.named(m.group(3))
+            if to is not None:
+                paths[m.group(1)] = to
+    invariants, answers, used = [], [], set()
+    goals = []
+    for comment, ls in decls:
+        text = "\n".join(ls)
+        if not text.strip() or "tie.close" in text:
+            continue
+        m = re.match(r"(abbrev )?(pub )?(%s)\s*:\s*([\s\S]*)" % NAME, text)
+        if not m:
+            fn.said.append("not read: " + ls[0])
+            continue
+        name = m.group(3)
+        if name in paths:
+            continue
+        loop = re.match(r"(invariant|decreases)-(loop[\w'-]*)$", name)
+        if m.group(1) and loop and re.match(r"tie\.(invariant|decreases)-", m.group(4)):
+            kind, which = loop.groups()
+            entry = [(n, v, c) for ((o, n), v), c in zip(table["loops"], table["changed"]) if plain(o) == plain(which)]
+            if not entry:
+                fn.said.append("no loop %s" % which)
+                continue
+            new, variables, changed = entry[0]
+            b = re.match(r"[^\n]*\n((?:unfolding [^\n]*\n)?)%s((?:\s+%s)*)\s*=\s*([\s\S]*)" % (re.escape(name), NAME), text)
+            unfolding, given, value = b.groups()
+            given = given.split()
+            wanted = ["l." + v if not c else "l.initial." + v for v, c in zip(variables, changed)] + ["l." + v for v, c in zip(variables, changed) if c]
+            if len(given) != len(wanted):
+                fn.said.append("%s takes %d of %d" % (name, len(given), len(wanted)))
+            where = dict(zip(given, wanted))
+            value = re.sub(r"(?<![\w.'-])(%s)(?![\w'₀-₉-])" % NAME, lambda t: where.get(t.group(1), t.group(1)), value)
+            one = " " if "\n" not in value.strip() and len(value) < 100 else "\n    "
+            invariants.append((comment, "abbrev pub %s-%s : goal.%s-%s\n%s%s-%s l =%s%s" % (kind, new, kind, new, unfolding, kind, new, one, value.strip())))
+            continue
+        need = re.match(r"tie\.Need-(%s)" % NAME, m.group(4))
+        if need:
+            b = re.search(r"\n((?:unfolding [^\n]*\n(?:    [^\n]*\n)*)?)%s((?:[ \n]+[\w'₀-₉()_, ]+?)*)\s*=(?=\s)\s*([\s\S]*)" % re.escape(name), text)
+            goals.append([comment, plain(need.group(1)), b.groups() if b else None, text])
+            answers.append(("goal", len(goals) - 1))
+            continue
+        answers.append(("helper", comment, text))
+    listed = len(goals) == len(fn.goals)
+    byname = {plain(o): k for k, (o, n) in enumerate(fn.goals)}
+    out = []
+    for a in answers:
+        if a[0] == "goal":
+            comment, old, body, text = goals[a[1]]
+            k = a[1] if listed else None
+            if k is None:
+                for guess in (old, re.sub(r"^(overflow|slice-bounds)-", "", old), old.replace("slice-bounds-", "part-"), old.replace("holds", "init")):
+                    if guess in byname:
+                        k = byname[guess]
+                        break
+            if k is None:
+                if not re.match(r"slice-aggregate|enum|known|same-length", old):
+                    fn.said.append("no goal for %s" % old)
+                continue
+            new = fn.goals[k][1]
+            if body is None:
+                fn.said.append("not read: " + text[:80].replace("\n", " "))
+                continue
+            unfolding, args, value = body
+            if TRIVIAL.match(re.sub(r"\s+", " ", value.strip())) and not unfolding:
+                continue
+            if re.match(r"shape_of-|long-", new):
+                continue
+            at = fn.named(table["asked_at"][k][0])
+            args = args.split()
+            if new.split("-2")[0].endswith("-requires") and len(args) == 2 and args[1] == "κs":
+                args = args[:1]
+            value = fn.expression(value, args[0] if args else None, at, bool(table["typed"][at]), paths)
+            if new.startswith("returns"):
+                value = fn.record(value, fn.own[1], new)
+            called = re.match(r"(.*)-requires(?:-\d+)?$", new)
+            if called:
+                for p in table["places"]:
+                    if p[2][1] == called.group(1) and p[3]:
+                        bits = p[3].split("::")
+                        value = fn.record(value, CLAUSES.get((bits[0], bits[-1]), ([], []))[0], new)
+            one = " " if "\n" not in value and len(value) < 110 else "\n    "
+            out.append((comment, "pub %s : goal.%s\n%s%s %s =%s%s" % (new, new, unfolding, new, " ".join(args), one, value.strip())))
+            continue
+        _, comment, text = a
+        found = re.findall(type_pattern, text.split("=")[0])
+        m = re.search(r"\((%s) : tie\." % NAME, text)
+        root = m.group(1) if m else None
+        if not root and found:
+            b = re.search(r"\n%s (%s)" % (NAME, NAME), text)
+            root = b.group(1) if b else None
+        at = fn.named(found[0]) if found else None
+        if at is not None:
+            text = re.sub(type_pattern, lambda t: "TYPE⟨%s⟩" % t.group(1), text)
+            if len(set(found)) > 1 or text.count("TYPE⟨") > 1 and len(re.findall(r"TYPE⟨", text)) > 1:
+                fn.said.append("a helper of several places: %s" % text.split("\n")[0][:100])
+            # the binder and the clause's argument stay
+            text = re.sub(r"\(%s : TYPE" % re.escape(root), "(BINDER : TYPE", text)
+            text = re.sub(r"(?m)^(%s) %s(?![\w'-])" % (NAME, re.escape(root)), r"\1 BINDER", text)
+            text = fn.expression(text, root, at, False, paths).replace("BINDER", root)
+
+            def put_type(t):
+                i = fn.named(t.group(1))
+                used.add(i)
+                return table["places_by_name"][i]
+            text = re.sub(r"TYPE⟨([^⟩]*)⟩", put_type, text)
+        out.append((comment, text))
+    loops = [new for (old, new), _ in table["loops"]]
+    given = "".join(" goal.the-invariant-%s" % n for n in loops) + "".join(" goal.the-decreases-%s" % n for n in loops)
+    claims = " tie.the-claims" if any(p[3] for p in table["places"]) else ""
+    handed = " tie.handed_clauses" if len(fn.own[1]) > 1 else ""
+    abbrevs = []
+    for i in sorted(used):
+        new = table["places_by_name"][i]
+        abbrevs.append(([], "abbrev %s : Type 0\n%s = lts.%s%s reads.Pre reads.Post%s%s" % (new, new, fn.type_of(i), claims, handed, given)))
+    target = os.path.join(folder, "proofs", path)
+    if invariants:
+        body = "\n\n".join("\n".join(c + [t]) for c, t in invariants)
+        write(os.path.join(target, "Invariants.antt"), "\n".join(title + needed(uses, body) + ["use %sGiven as goal" % own, "", body, ""]))
+    if out:
+        body = "\n\n".join("\n".join(c + [t]) for c, t in abbrevs + out)
+        if any(t.startswith("pub ") for _, t in out):
+            need = needed(uses, body) + ["use %sGoals as goal" % own]
+            if abbrevs:
+                need += ["use %sLts as lts" % own, "use %sReads as reads" % own] + (["use %sTie as tie" % own] if claims or handed else [])
+            write(os.path.join(target, "Answers.antt"), "\n".join(title + need + ["", body, ""]))
+    return fn.said
+
+
+def needed(uses, body):
+    words = set(re.findall(r"[^\s(){}\[\];,.]+", body)) | set(re.findall(NAME, body))
+    out = []
+    for line in uses:
+        m = re.match(r"(?:pub )?use ([^{]*)\.\{([^}]*)\}", line)
+        if not m:
+            out.append(line)
+            continue
+
+        def used(n):
+            last = n.split(" as ")[-1]
+            if "[" in last:
+                return last in body
+            if "◌" in last:
+                return all(p in body for p in re.split(r"[◌\s]", last) if p)
+            return last in words
+        keep = [n.strip() for n in m.group(2).split(",") if used(n.strip())]
+        if keep:
+            out.append("use %s.{%s}" % (m.group(1), ", ".join(keep)))
+    return out
+
+
 def main():
-    crate = sys.argv[1]
-    only = sys.argv[2:]
-    root = os.path.join(os.path.dirname(os.path.abspath(__file__)), "..")
-    folder = os.path.join(root, "crates", crate)
-    table = names_of(folder)
-    for where, dirs, files in os.walk(os.path.join(folder, "proofs")):
-        if "Proof.antt" not in files:
-            continue
-        path = os.path.relpath(where, os.path.join(folder, "proofs"))
-        if only and path.split("/")[-1] not in only:
-            continue
-        key = "Rattle-%s-proofs.%s.Lts" % (crate, path.replace("/", "."))
+    crate, only = sys.argv[1], sys.argv[2:]
+    folder = os.path.join(ROOT, "crates", crate)
+    commit = read(os.path.join(ROOT, "docs/PORT.md")).split("\n")[1].strip()
+    listed = subprocess.run(["git", "ls-tree", "-r", "--name-only", commit, "crates/%s/proofs" % crate], cwd=ROOT, capture_output=True, text=True).stdout.split("\n")
+    walks = [p.split("/proofs/")[1][: -len("/Proof.antt")] for p in listed if p.endswith("/Proof.antt") and "/+" not in p]
+    walks = [w for w in walks if not only or w.split("/")[-1] in only]
+    for w in walks:
+        for n in ("Proof", "Answers", "Invariants"):
+            p = os.path.join(folder, "proofs", w, n + ".antt")
+            if os.path.exists(p):
+                os.remove(p)
+    table, made = generated(folder)
+    for w in walks:
+        key = "Rattle-%s-proofs.%s.Lts" % (crate, w.replace("/", "."))
         if key not in table:
-            print("%s: no names for %s" % (crate, path))
+            print("%s: no names for %s" % (crate, w))
             continue
-        for said in convert(folder, crate, path, table[key]):
-            print("%s %s: %s" % (crate, path, said))
+        source = subprocess.run(["git", "show", "%s:crates/%s/proofs/%s/Proof.antt" % (commit, crate, w)], cwd=ROOT, capture_output=True, text=True).stdout
+        for said in convert(folder, crate, w, table[key], made, source):
+            print("walks: %s %s: %s" % (crate, w, said))
+    shutil.rmtree(made)
 
 
 if __name__ == "__main__":

@@ -7,16 +7,23 @@ use Rattle.job_commands.proofs.read_r.Goals as goal
 
 pub returns-then-job-at-lt3 : goal.returns-then-job-at-lt3
 unfolding Onward
-returns-then-job-at-lt3 c = (λ s room. r_cut c.args.job.now c.args.p c.requires.0 s (omega arith), tt)
+returns-then-job-at-lt3 c =
+    record {
+      s_value = λ s room. r_cut c.args.job.now c.args.p c.requires.0 s (omega arith);
+      onward = tt;
+    }
 
 pub returns-then-row-closed : goal.returns-then-row-closed
 unfolding Onward
 returns-then-row-closed c =
-    (λ s room. r_other c.args.job.now c.args.p c.requires.0 s room (omega arith) _ c.u16_at-row.ensures.0 c.if-row-closed.true, tt)
+    record {
+      s_value = λ s room. r_other c.args.job.now c.args.p c.requires.0 s room (omega arith) _ c.u16_at-row.ensures.0 c.if-row-closed.true;
+      onward = tt;
+    }
 
 pub returns : goal.returns
 returns c =
-    (
-      λ s room. r_read c.args.job.now c.args.p c.requires.0 s room (omega arith) _ c.u16_at-row.ensures.0 (omega arith),
-      r_onward c.args.job.now c.args.p c.requires.0 c.requires.1 (omega arith),
-    )
+    record {
+      s_value = λ s room. r_read c.args.job.now c.args.p c.requires.0 s room (omega arith) _ c.u16_at-row.ensures.0 (omega arith);
+      onward = r_onward c.args.job.now c.args.p c.requires.0 c.requires.1 (omega arith);
+    }

@@ -6,8 +6,16 @@ use Rattle.job_commands.proofs.read_z.Goals as goal
 
 pub returns-then-job-at-gt1 : goal.returns-then-job-at-gt1
 unfolding Onward
-returns-then-job-at-gt1 c = (λ s. z_follows c.args.job.now c.args.p c.requires.0 s (omega arith), tt)
+returns-then-job-at-gt1 c =
+    record {
+      s_value = λ s. z_follows c.args.job.now c.args.p c.requires.0 s (omega arith);
+      onward = tt;
+    }
 
 pub returns : goal.returns
 unfolding Onward
-returns c = (λ s. z_done c.args.job.now c.args.p c.requires.0 s (omega arith), (c.requires.0.sound, c.requires.1))
+returns c =
+    record {
+      s_value = λ s. z_done c.args.job.now c.args.p c.requires.0 s (omega arith);
+      onward = (c.requires.0.sound, c.requires.1);
+    }

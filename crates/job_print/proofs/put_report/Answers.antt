@@ -4,25 +4,20 @@ use Rattle.job_print.proofs.Reporting.{plan-room, rows-room, values-room, update
 use Rattle.job_print.proofs.put_report.Goals as goal
 
 pub put_line-planned-requires : goal.put_line-planned-requires
-put_line-planned-requires c κs = plan-room c.requires
+put_line-planned-requires c = plan-room c.requires
 
 pub put_line-chosen-requires : goal.put_line-chosen-requires
-put_line-chosen-requires c κs = rows-room c.requires c.put_line-planned.ensures.1 c.put_line-planned.auto.out
+put_line-chosen-requires c = rows-room c.requires c.put_line-planned.ensures.1 c.put_line-planned.auto.out
 
 pub put_values-solved-requires : goal.put_values-solved-requires
-put_values-solved-requires c κs =
+put_values-solved-requires c =
     values-room c.requires c.put_line-planned.ensures.1 c.put_line-chosen.ensures.1
     (c.put_line-chosen.auto.out ∙ c.put_line-planned.auto.out)
 
 pub put_line-requires : goal.put_line-requires
-put_line-requires c κs =
+put_line-requires c =
     updates-room c.requires c.put_line-planned.ensures.1 c.put_line-chosen.ensures.1
     c.put_values-solved.ensures.1 (c.put_values-solved.auto.out ∙ c.put_line-chosen.auto.out ∙ c.put_line-planned.auto.out)
-
-pub shape_of-out : goal.shape_of-out
-shape_of-out c =
-    c.put_line.auto.out ∙ c.put_values-solved.auto.out ∙ c.put_line-chosen.auto.out ∙
-    c.put_line-planned.auto.out
 
 pub returns : goal.returns
 returns c =

@@ -6,11 +6,9 @@ pub returns-then-row-column : goal.returns-then-row-column
 returns-then-row-column c = let a = c.args in on_diagonal_lem a.d a.row a.column a.state c.if-row-column.true
 
 pub divides_by-present-requires : goal.divides_by-present-requires
-divides_by-present-requires c κs = c.requires
+divides_by-present-requires c = c.requires
 
 pub returns : goal.returns
 returns c =
-    let drawing = c.before.before in
-    let stepping = drawing.before.before in
-    let a = stepping.args in
-    off_diagonal a.d a.row a.column a.state drawing.if-row-column.false _ _ _ c.step-next.ensures c.mix.ensures c.divides_by-present.ensures
+    let a = c.args in
+    off_diagonal a.d a.row a.column a.state c.if-row-column.false _ _ _ c.step-next.ensures c.mix.ensures c.divides_by-present.ensures

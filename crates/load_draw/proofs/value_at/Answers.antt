@@ -4,4 +4,4 @@ use Rattle.foundation.specs.Draw.{drawn_value}
 use Rattle.load_draw.proofs.value_at.Goals as goal
 
 pub returns : goal.returns
-returns c = c.value_of_lem.ensures ∙ ap drawn_value c.mix.ensures
+returns c = c.value_of.ensures ∙ ap drawn_value c.mix.ensures

@@ -18,29 +18,24 @@ sizes c = load_sizes c.args.starts c.args.columns c.args.values c.args.right
 
 pub returns-then-n-eq0 : goal.returns-then-n-eq0
 unfolding load_answer_of
-returns-then-n-eq0 c = sym (outside-limits _ _ (sizes c.before.before) (λ (low, high). omega (arith, low, c.if-n-eq0.true)))
+returns-then-n-eq0 c = sym (outside-limits _ _ (sizes c.before) (λ (low, high). omega (arith, low, c.if-n-eq0.true)))
 
 pub returns-then-n-gt-LARGEST_N : goal.returns-then-n-gt-LARGEST_N
 unfolding load_answer_of
 returns-then-n-gt-LARGEST_N c =
-    sym (outside-limits _ _ (sizes c.before.before.before) (λ (low, high). omega (arith, high, c.if-n-gt-LARGEST_N.true)))
+    sym (outside-limits _ _ (sizes c.before.before) (λ (low, high). omega (arith, high, c.if-n-gt-LARGEST_N.true)))
 
 pub returns-then-d-eq0 : goal.returns-then-d-eq0
 unfolding load_answer_of
 returns-then-d-eq0 c =
-    let k = c.before.before.before in
-    sym (no_divisor _ _ (sizes k.before.before) (some _ k.if-n-eq0.false, c.if-n-gt-LARGEST_N.false) c.if-d-eq0.true)
+    sym (no_divisor _ _ (sizes c.before.before.before.before) (some _ c.if-n-eq0.false, c.if-n-gt-LARGEST_N.false) c.if-d-eq0.true)
 
 pub returns-then-not-fit : goal.returns-then-not-fit
 unfolding load_answer_of
 returns-then-not-fit c =
-    let fit = c.before.before.before in
-    let k = fit.before in
-    sym (no_room _ _ (sizes k.before.before) (some _ k.if-n-eq0.false, c.if-n-gt-LARGEST_N.false) c.if-d-eq0.false (sym c.sizes_fit_lem.ensures ∙ not-true _ c.if-not-fit.true))
+    sym (no_room _ _ (sizes c.before.before.before.before.before) (some _ c.if-n-eq0.false, c.if-n-gt-LARGEST_N.false) c.if-d-eq0.false (sym c.sizes_fit-fit.ensures ∙ not-true _ c.if-not-fit.true-raw))
 
 pub returns : goal.returns
 unfolding load_answer_of
 returns c =
-    let fit = c.before.before.before in
-    let k = fit.before in
-    sym (may_draw _ _ (sizes k.before.before) (some _ k.if-n-eq0.false, c.if-n-gt-LARGEST_N.false) c.if-d-eq0.false (sym c.sizes_fit_lem.ensures ∙ not-false _ c.if-not-fit.false))
+    sym (may_draw _ _ (sizes c.before.before.before.before.before) (some _ c.if-n-eq0.false, c.if-n-gt-LARGEST_N.false) c.if-d-eq0.false (sym c.sizes_fit-fit.ensures ∙ not-false _ c.if-not-fit.false-raw))

@@ -23,31 +23,28 @@ part : (k : After-truncating_f64_to_u64-whole) → (whole k ≡ num (magnitude k
 part k = part_of (magnitude k) k.requires (whole k) k.truncating_f64_to_u64-whole.ensures
 
 pub truncating_f64_to_u64-whole-requires : goal.truncating_f64_to_u64-whole-requires
-truncating_f64_to_u64-whole-requires c κs = (above_minus_one _ c.requires, below_word _ c.requires)
+truncating_f64_to_u64-whole-requires c = (above_minus_one _ c.requires, below_word _ c.requires)
 
 pub overflow_mul-half : goal.overflow_mul-half
-overflow_mul-half c = record { fits = omega (arith, (part c.before).1) }
+overflow_mul-half c = record { fits = omega (arith, (part c).1) }
 
 pub overflow_add-half : goal.overflow_add-half
-overflow_add-half c = record { fits = omega (arith, (part c.before).1) }
+overflow_add-half c = record { fits = omega (arith, (part c).1) }
 
 pub int_to_float-half : goal.int_to_float-half
-int_to_float-half c = counts _ (part c.before.before).1
+int_to_float-half c = counts _ (part c.before).1
 
 pub returns-then-magnitude-half : goal.returns-then-magnitude-half
 returns-then-magnitude-half c =
-    let k = c.before.before.before in
-    let is = goes_down (magnitude k) k.requires (whole k) (part k).0 _ (half_value (whole k) (part k).1) c.if-magnitude-half.true in
-    (is, still_small _ _ is (nearest_small (magnitude k) k.requires))
+    let is = goes_down (magnitude c.before.before) c.requires (whole c.before.before) (part c.before.before).0 _ (half_value (whole c.before.before) (part c.before.before).1) c.if-magnitude-half.true in
+    (is, still_small _ _ is (nearest_small (magnitude c.before.before) c.requires))
 
 pub returns-then-half-magnitude : goal.returns-then-half-magnitude
 returns-then-half-magnitude c =
-    let k = c.before.before.before.before in
-    let is = goes_up (magnitude k) k.requires (whole k) (part k).0 _ (half_value (whole k) (part k).1) c.if-half-magnitude.true in
-    (is, still_small _ _ is (nearest_small (magnitude k) k.requires))
+    let is = goes_up (magnitude c.before.before.before) c.requires (whole c.before.before.before) (part c.before.before.before).0 _ (half_value (whole c.before.before.before) (part c.before.before.before).1) c.if-half-magnitude.true in
+    (is, still_small _ _ is (nearest_small (magnitude c.before.before.before) c.requires))
 
 pub returns : goal.returns
 returns c =
-    let k = c.before.before.before.before in
-    let is = goes_even (magnitude k) k.requires (whole k) (part k).0 _ (half_value (whole k) (part k).1) c.if-magnitude-half.false c.if-half-magnitude.false in
-    (is, still_small _ _ is (nearest_small (magnitude k) k.requires))
+    let is = goes_even (magnitude c.before.before.before) c.requires (whole c.before.before.before) (part c.before.before.before).0 _ (half_value (whole c.before.before.before) (part c.before.before.before).1) c.if-magnitude-half.false c.if-half-magnitude.false in
+    (is, still_small _ _ is (nearest_small (magnitude c.before.before.before) c.requires))

@@ -5,7 +5,7 @@ use Rattle.offset_round.proofs.Signs.{sign_told, plus_told, plus_rounds, plus_be
 use Rattle.offset_round.proofs.rounded.Goals as goal
 
 pub nearest-size-requires : goal.nearest-size-requires
-nearest-size-requires c κs = minus_small c.args.value c.if-value.true c.if-magnitude.true
+nearest-size-requires c = minus_small c.args.value c.if-value.true c.if-magnitude.true
 
 pub returns-then-magnitude : goal.returns-then-magnitude
 unfolding rounding_of
@@ -20,7 +20,7 @@ unfolding rounding_of
 returns-then-value c = (sym (minus_beyond c.args.value c.if-value.true c.if-magnitude.false), tt)
 
 pub nearest-requires : goal.nearest-requires
-nearest-requires c κs = record { not_below = c.if-value.false; under = c.if-value-2.true }
+nearest-requires c = record { not_below = c.if-value.false; under = c.if-value-2.true }
 
 pub returns-then-value-2 : goal.returns-then-value-2
 unfolding rounding_of

@@ -4,9 +4,6 @@ use Rattle.foundation.specs.Answer.{work_store}
 use Rattle.foundation.specs.Numbers.{plus_zero}
 use Rattle.run_clear.proofs.clear_floats.Goals as goal
 
-pub shape_of-store : goal.shape_of-store
-shape_of-store c = c.fill_floats.auto.store
-
 pub returns : goal.returns
 unfolding work_store plus_zero of_bits
 returns c = c.fill_floats.ensures

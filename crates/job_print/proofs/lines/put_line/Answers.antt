@@ -4,6 +4,5 @@ use Rattle.job_print.proofs.lines.put_line.Goals as goal
 
 pub returns : goal.returns
 returns c =
-    let at-put-numbers = c.before.before.before.before.before.before.before in
-    line_put _ _ at-put-numbers.put_word-said.ensures c.put_numbers-counted.ensures
+    line_put _ _ c.put_word-said.ensures c.put_numbers-counted.ensures
     c.put_byte.ensures

@@ -4,9 +4,7 @@ use Rattle.job_print.proofs.Decimals.{spaced_put, spaced-room}
 use Rattle.job_print.proofs.lines.put_spaced.Goals as goal
 
 pub put_decimal-requires : goal.put_decimal-requires
-put_decimal-requires c κs =
-    let at-put-byte = c.before.before.before.before in
-    spaced-room _ (omega arith) at-put-byte.requires c.put_byte-end.ensures
+put_decimal-requires c = spaced-room _ (omega arith) c.requires c.put_byte-end.ensures
 
 pub returns : goal.returns
 returns c = spaced_put _ (omega arith) c.put_byte-end.ensures c.put_decimal.ensures

@@ -4,23 +4,11 @@ use native.Mathlib.Nat.{le-add_right}
 use Rattle.lists.proofs.Small.{less, next_le, index-fits, next_fits}
 use Rattle.job_print.proofs.Lining.{lines_room, lines_more, lines_end, values_start, values-turn, values_end}
 use Rattle.job_print.proofs.lines.put_values.Goals as goal
-use Rattle.job_print.proofs.lines.put_values.Lts as lts
-use Rattle.job_print.proofs.lines.put_values.Reads as reads
-use Rattle.job_print.proofs.lines.put_values.Tie as tie
-
-abbrev In-loop-i : Type 0
-In-loop-i = lts.In-loop tie.the-claims reads.Pre reads.Post goal.the-invariant-loop-i goal.the-decreases-loop-i
-
-abbrev After-slice_known-in-loop-i-1 : Type 0
-After-slice_known-in-loop-i-1 = lts.After-slice_known2 tie.the-claims reads.Pre reads.Post goal.the-invariant-loop-i goal.the-decreases-loop-i
-
-abbrev in-loop-from-making-i : After-slice_known-in-loop-i-1 → In-loop-i
-in-loop-from-making-i c = c.before.before.before.before.before
 
 pub loop-i-init : goal.loop-i-init
 loop-i-init c =
     let a = c.args in
-    (zero-le, le-add_right _ _, values_start a.out-1.now a.values.now a.at)
+    (zero-le, le-add_right _ _, values_start a.out.now a.values.now a.at)
 
 pub offset_bounds-values-i : goal.offset_bounds-values-i
 offset_bounds-values-i c = index-fits c.loop-i-test.true c.well_formed.1.1.0.1
@@ -29,32 +17,24 @@ pub bounds-values-i : goal.bounds-values-i
 bounds-values-i c = c.loop-i-test.true
 
 pub put_value-end-requires : goal.put_value-end-requires
-put_value-end-requires c κs =
-    let at-loop = c.before.before.before.before in
+put_value-end-requires c =
     let l = c.loop-i in
-    lines_room 40 _ l.i _ l.invariant.1 c.loop-i-test.true at-loop.requires l.invariant.2.size
+    lines_room 40 _ l.i _ l.invariant.1 c.loop-i-test.true c.requires l.invariant.2.size
 
 pub overflow_add-i-in-loop-i : goal.overflow_add-i-in-loop-i
-overflow_add-i-in-loop-i c =
-    let in-loop = in-loop-from-making-i c.before in
-    next_fits c.loop-i-test.true in-loop.good.1.1.0.1
+overflow_add-i-in-loop-i c = next_fits c.loop-i-test.true c.well_formed.1.1.0.1
 
 pub loop-i-smaller : goal.loop-i-smaller
 loop-i-smaller c = less _ _ c.loop-i-test.true
 
 pub loop-i-preserved : goal.loop-i-preserved
 loop-i-preserved c =
-    let in-loop = in-loop-from-making-i c.before in
-    let at-loop = in-loop.before in
     let l = c.loop-i in
     let e = c.put_value-end.ensures in (
       next_le _ _ c.loop-i-test.true,
-      lines_more 40 _ l.i l.invariant.1 e.1,
-      values-turn at-loop.args.values.now l.i c.loop-i-test.true l.invariant.2 e.0,
+      lines_more 40 _ l.i l.inv.1 e.1,
+      values-turn c.args.values.now l.i c.loop-i-test.true l.inv.2 e.0,
     )
-
-pub shape_of-out : goal.shape_of-out
-shape_of-out c = c.loop-i.invariant.2.size
 
 pub returns : goal.returns
 returns c =

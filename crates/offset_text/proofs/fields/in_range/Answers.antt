@@ -10,6 +10,5 @@ returns-then-two_at-ge60 c = many-minutes _ _ c.three_at.ensures.0 c.if-three_at
 
 pub returns : goal.returns
 returns c =
-    let at-three-at-else = c.before.before.before.before in
-    by-seconds _ _ at-three-at-else.three_at.ensures.0 c.if-three_at-ge360.false _ _ c.two_at.ensures.0
+    by-seconds _ _ c.three_at.ensures.0 c.if-three_at-ge360.false _ _ c.two_at.ensures.0
     c.if-two_at-ge60.false c.two_at-2.ensures.0

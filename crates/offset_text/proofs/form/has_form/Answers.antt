@@ -12,12 +12,12 @@ returns-then-text-kinds c = another_length _ _ c.if-text-kinds.true
 pub returns-then-not-may_stand : goal.returns-then-not-may_stand
 returns-then-not-may_stand c =
     let l = c.loop-i in
-    not_standing _ _ l.invariant.1 l.i l.invariant.2 (search rules) (sym c.may_stand.ensures ∙ not-true _ c.if-not-may_stand.true)
+    not_standing _ _ l.invariant.1 l.i l.invariant.2 (search rules) (sym c.may_stand.ensures ∙ not-true _ c.if-not-may_stand.true-raw)
 
 pub loop-i-preserved : goal.loop-i-preserved
 loop-i-preserved c =
     let l = c.loop-i in
-    (search rules, search rules, standing _ _ l.invariant.1 l.i l.invariant.2 (search rules) (sym c.may_stand.ensures ∙ not-false _ c.if-not-may_stand.false))
+    (search rules, search rules, standing _ _ l.invariant.1 l.i l.invariant.2 (search rules) (sym c.may_stand.ensures ∙ not-false _ c.if-not-may_stand.false-raw))
 
 pub returns : goal.returns
 returns c =

@@ -28,38 +28,29 @@ formed : (k : After-has_form) → not k.has_form.result ≡ false → has_form f
 formed k h = sym (asked k) ∙ not-false _ h
 
 pub returns-then-not-has_form : goal.returns-then-not-has_form
-returns-then-not-has_form c = without-form _ (sym (asked c.before.before) ∙ not-true _ c.if-not-has_form.true)
+returns-then-not-has_form c = without-form _ (sym (asked c.before.before) ∙ not-true _ c.if-not-has_form.true-raw)
 
 pub in_range-requires : goal.in_range-requires
-in_range-requires c κs = form-sized _ (formed c.before.before c.if-not-has_form.false)
+in_range-requires c = form-sized _ (formed c.before.before c.if-not-has_form.false-raw)
 
 pub returns-then-not-in_range : goal.returns-then-not-in_range
 returns-then-not-in_range c =
-    out_of_range _ (formed c.before.before.before.before c.if-not-has_form.false) (sym c.in_range_lem.ensures ∙ not-true _ c.if-not-in_range.true)
+    out_of_range _ (formed c.before.before.before.before c.if-not-has_form.false-raw) (sym c.in_range.ensures ∙ not-true _ c.if-not-in_range.true-raw)
 
 pub bounds-text-0 : goal.bounds-text-0
 bounds-text-0 c =
-    let at-has-form-else = c.before.before.before.before in
-    let at-has-form = at-has-form-else.before in
-    inside (text at-has-form) (form-sized _ (formed at-has-form c.if-not-has_form.false))
+    inside (text c.before.before.before.before.before) (form-sized _ (formed c.before.before.before.before.before c.if-not-has_form.false-raw))
 
 pub size_read-requires : goal.size_read-requires
-size_read-requires c κs =
-    let at-has-form-else = c.before.before.before.before.before in
-    form-sized _ (formed at-has-form-else.before c.if-not-has_form.false)
+size_read-requires c = form-sized _ (formed c.before.before.before.before.before.before c.if-not-has_form.false-raw)
 
 pub returns-then-text-eq45 : goal.returns-then-text-eq45
 returns-then-text-eq45 c =
-    let in-range-else = c.before.before.before.before in
-    let in_range_lem = in-range-else.before in
-    let at-has-form-else = in_range_lem.before in
-    by_size _ (formed at-has-form-else.before c.if-not-has_form.false) (sym c.in_range_lem.ensures ∙ not-false _ c.if-not-in_range.false) _
+    by_size _ (formed c.before.before.before.before.before.before.before c.if-not-has_form.false-raw) (sym c.in_range.ensures ∙ not-false _ c.if-not-in_range.false-raw) _
     c.if-text-eq45.true c.size_read.ensures
 
 pub returns : goal.returns
 returns c =
-    let in_range_lem = c.before.before.before.before in
-    let at-has-form-else = in_range_lem.before in
-    with_plus _ (formed at-has-form-else.before c.if-not-has_form.false) (sym c.in_range_lem.ensures ∙
-    not-false _ c.if-not-in_range.false)
+    with_plus _ (formed c.before.before.before.before.before.before c.if-not-has_form.false-raw) (sym c.in_range.ensures ∙
+    not-false _ c.if-not-in_range.false-raw)
     c.if-text-eq45.false

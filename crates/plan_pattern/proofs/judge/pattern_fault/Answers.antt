@@ -19,30 +19,24 @@ returns-then-columns-gt-MOST_ENTRIES c = sym (many-entries _ _ _ _ _ c.if-column
 -- 25: what 1 leaves is small
 pub returns-then-height-n : goal.returns-then-height-n
 returns-then-height-n c =
-    let e = c.before.before in
-    sym (too_few-rows _ _ _ _ _ e.if-n-eq0.false e.if-most-n.false e.if-n-gt-LARGEST_N.false c.if-columns-gt-MOST_ENTRIES.false c.if-height-n.true)
+    sym (too_few-rows _ _ _ _ _ c.if-n-eq0.false c.if-most-n.false c.if-n-gt-LARGEST_N.false c.if-columns-gt-MOST_ENTRIES.false c.if-height-n.true)
 
 pub returns-then-height-gt-MOST_ROWS : goal.returns-then-height-gt-MOST_ROWS
 returns-then-height-gt-MOST_ROWS c =
-    let e = c.before.before.before in
-    sym (too_tall _ _ _ _ _ e.if-n-eq0.false e.if-most-n.false e.if-n-gt-LARGEST_N.false c.if-columns-gt-MOST_ENTRIES.false c.if-height-n.false
+    sym (too_tall _ _ _ _ _ c.if-n-eq0.false c.if-most-n.false c.if-n-gt-LARGEST_N.false c.if-columns-gt-MOST_ENTRIES.false c.if-height-n.false
     c.if-height-gt-MOST_ROWS.true)
 
 pub returns-then-not-starts_fit : goal.returns-then-not-starts_fit
 returns-then-not-starts_fit c =
-    let f = c.before.before.before in
-    let e = f.before.before in
-    sym (starts-refused _ _ _ _ _ e.if-n-eq0.false e.if-most-n.false e.if-n-gt-LARGEST_N.false c.if-columns-gt-MOST_ENTRIES.false
-    f.if-height-n.false c.if-height-gt-MOST_ROWS.false
-    (sym (c.starts_fit.ensures _) ∙ not-true _ c.if-not-starts_fit.true))
+    sym (starts-refused _ _ _ _ _ c.if-n-eq0.false c.if-most-n.false c.if-n-gt-LARGEST_N.false c.if-columns-gt-MOST_ENTRIES.false
+    c.if-height-n.false c.if-height-gt-MOST_ROWS.false
+    (sym (c.starts_fit.ensures _) ∙ not-true _ c.if-not-starts_fit.true-raw))
 
 pub rows_fault-requires : goal.rows_fault-requires
-rows_fault-requires c κs = sym (c.starts_fit.ensures _) ∙ not-false _ c.if-not-starts_fit.false
+rows_fault-requires c = sym (c.starts_fit.ensures _) ∙ not-false _ c.if-not-starts_fit.false-raw
 
 pub returns : goal.returns
 returns c =
-    let f = c.before.before.before.before in
-    let e = f.before.before in
-    let fit = sym (c.starts_fit.ensures _) ∙ not-false _ c.if-not-starts_fit.false in
-    c.rows_fault.ensures ∙ sym (rows-judged _ _ _ _ _ e.if-n-eq0.false e.if-most-n.false e.if-n-gt-LARGEST_N.false
-    c.if-columns-gt-MOST_ENTRIES.false f.if-height-n.false c.if-height-gt-MOST_ROWS.false fit)
+    let fit = sym (c.starts_fit.ensures _) ∙ not-false _ c.if-not-starts_fit.false-raw in
+    c.rows_fault.ensures ∙ sym (rows-judged _ _ _ _ _ c.if-n-eq0.false c.if-most-n.false c.if-n-gt-LARGEST_N.false
+    c.if-columns-gt-MOST_ENTRIES.false c.if-height-n.false c.if-height-gt-MOST_ROWS.false fit)

@@ -18,5 +18,4 @@ returns-then-starts-height-3 c n = sym (last_fails n _ _ _ c.if-starts-height-2.
 
 pub returns : goal.returns
 returns c n =
-    let at-else-else-else = c.before.before.before.before in
-    c.not_falling.ensures ∙ sym (rising_left n _ _ _ at-else-else-else.if-starts-height-2.false c.if-starts-ne0.false c.if-starts-height-3.false)
+    c.not_falling.ensures ∙ sym (rising_left n _ _ _ c.if-starts-height-2.false c.if-starts-ne0.false c.if-starts-height-3.false)

@@ -14,18 +14,6 @@ use Rattle.store_lists.proofs.chains.step_reads.Reads as reads
 abbrev In-loop-l : Type 0
 In-loop-l = lts.In-loop reads.Pre reads.Post goal.the-invariant-loop-l goal.the-decreases-loop-l
 
-abbrev After-shared_slice_known-in-loop-l-3-1 : Type 0
-After-shared_slice_known-in-loop-l-3-1 = lts.After-shared_slice_known4 reads.Pre reads.Post goal.the-invariant-loop-l goal.the-decreases-loop-l
-
-abbrev After-shared_slice_known-in-loop-l-4-1 : Type 0
-After-shared_slice_known-in-loop-l-4-1 = lts.After-shared_slice_known5 reads.Pre reads.Post goal.the-invariant-loop-l goal.the-decreases-loop-l
-
-abbrev in-loop-from-reading-reads4 : After-shared_slice_known-in-loop-l-3-1 → In-loop-l
-in-loop-from-reading-reads4 c = c.before.before.before.before
-
-abbrev in-loop-from-loop-end : After-shared_slice_known-in-loop-l-4-1 → In-loop-l
-in-loop-from-loop-end c = in-loop-from-reading-reads4 c.before
-
 -- what is read of step l, and what is left behind it
 turn : (c : In-loop-l)
     → StepsTurn c.args.links.now c.args.first c.args.lowers.now
@@ -42,7 +30,7 @@ pub loop-l-init : goal.loop-l-init
 loop-l-init c = steps_left _ _ _ _ c.requires.0 c.requires.1
 
 pub offset_bounds-lowers-l : goal.offset_bounds-lowers-l
-offset_bounds-lowers-l c = scaled_Fits _ _ _ (turn (c.before)).in_lowers c.well_formed.1.1.0.1
+offset_bounds-lowers-l c = scaled_Fits _ _ _ (turn c.before).in_lowers c.well_formed.1.1.0.1
 
 pub bounds-lowers-l : goal.bounds-lowers-l
 bounds-lowers-l c = (turn c.before.before).in_lowers
@@ -75,35 +63,31 @@ pub overflow_sub-reads-in-loop-l-2 : goal.overflow_sub-reads-in-loop-l-2
 overflow_sub-reads-in-loop-l-2 c = pos_of_ne-zero c.loop-l-test.true
 
 pub offset_bounds-uppers-l-in-loop-l : goal.offset_bounds-uppers-l-in-loop-l
-offset_bounds-uppers-l-in-loop-l c =
-    let in-loop = c.before.before.before.before in
-    before-fits (turn in-loop).in_uppers in-loop.well_formed.1.1.1.0.1
+offset_bounds-uppers-l-in-loop-l c = before-fits (turn c.before.before.before.before).in_uppers c.well_formed.1.1.1.0.1
 
 pub bounds-uppers-l-in-loop-l : goal.bounds-uppers-l-in-loop-l
-bounds-uppers-l-in-loop-l c = before_below (turn (in-loop-from-reading-reads4 c.before)).in_uppers
+bounds-uppers-l-in-loop-l c = before_below (turn c.before.before.before.before.before).in_uppers
 
 pub overflow_sub-reads-in-loop-l-3 : goal.overflow_sub-reads-in-loop-l-3
-overflow_sub-reads-in-loop-l-3 c = (turn (in-loop-from-reading-reads4 c.before)).uppers_rise
+overflow_sub-reads-in-loop-l-3 c = (turn c.before.before.before.before.before).uppers_rise
 
 pub overflow_add-reads-in-loop-l-2 : goal.overflow_add-reads-in-loop-l-2
-overflow_add-reads-in-loop-l-2 c = (sums_fit _ _ _ (turn (in-loop-from-reading-reads4 c.before)).small).2
+overflow_add-reads-in-loop-l-2 c = (sums_fit _ _ _ (turn c.before.before.before.before.before).small).2
 
 pub overflow_add-reads-in-loop-l-3 : goal.overflow_add-reads-in-loop-l-3
-overflow_add-reads-in-loop-l-3 c = (sums_fit _ _ _ (turn (in-loop-from-reading-reads4 c.before)).small).3
+overflow_add-reads-in-loop-l-3 c = (sums_fit _ _ _ (turn c.before.before.before.before.before).small).3
 
 pub offset_bounds-links-l : goal.offset_bounds-links-l
-offset_bounds-links-l c =
-    let in-loop = in-loop-from-reading-reads4 c.before in
-    scaled_Fits _ _ _ (turn in-loop).in_links in-loop.good.1.0.1
+offset_bounds-links-l c = scaled_Fits _ _ _ (turn c.before.before.before.before.before).in_links c.well_formed.1.0.1
 
 pub bounds-links-l : goal.bounds-links-l
-bounds-links-l c = (turn (in-loop-from-loop-end c.before)).in_links
+bounds-links-l c = (turn c.before.before.before.before.before.before).in_links
 
 pub loop-l-smaller : goal.loop-l-smaller
-loop-l-smaller c = (turn (in-loop-from-loop-end c.before)).less
+loop-l-smaller c = (turn c.before.before.before.before.before.before).less
 
 pub loop-l-preserved : goal.loop-l-preserved
-loop-l-preserved c = (turn (in-loop-from-loop-end c.before)).left _ (add_assoc _ _ _)
+loop-l-preserved c = (turn c.before.before.before.before.before.before).left _ (add_assoc _ _ _)
 
 pub returns : goal.returns
 returns c = walk_end _ _ _ _ _ _ c.loop-l-test.false c.loop-l.invariant.walked

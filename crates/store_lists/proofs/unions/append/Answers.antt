@@ -74,9 +74,6 @@ loop-i-preserved c =
 pub overflow_add-result : goal.overflow_add-result
 overflow_add-result c = end_fits (within _ _ _ _ c.requires c.loop-i.invariant.0) c.well_formed.1.0.1
 
-pub shape_of-out : goal.shape_of-out
-shape_of-out c = c.loop-i.invariant.1.size
-
 pub returns : goal.returns
 returns c =
     let e : c.loop-i.i ≡ length c.args.list.now = le_antisymm c.loop-i.invariant.0 c.loop-i-test.false in

@@ -1,6 +1,6 @@
 -- `close_up` meets its contract: the loop fills the store from the place on with what stands further on in it.
 use mathlib.Core.Path.{◌≡◌, sym, ◌∙◌}
-use mathlib.Core.List.{List, ◌++◌}
+use mathlib.Core.List.{List, [], ◌++◌}
 use Prim.Native.Nat.{ℕ, ◌+◌, ◌-◌, ◌*◌, ◌^◌, ◌≤◌, ◌<◌}
 use native.Mathlib.Nat.{le_refl, le_antisymm}
 use native.Mathlib.Numerals.{add-one}
@@ -57,31 +57,28 @@ pub loop-a-init : goal.loop-a-init
 loop-a-init c = (c.requires.1, fill_start _ _ _ (fits _ _ _ c.requires))
 
 pub offset_bounds-store-a : goal.offset_bounds-store-a
-offset_bounds-store-a c = scaled_Fits _ _ _ c.loop-a-test.true (room c.before.before)
+offset_bounds-store-a c = scaled_Fits _ _ _ c.loop-a-test.true (room c.before)
 
 pub bounds-store-a : goal.bounds-store-a
 bounds-store-a c = c.loop-a-test.true
 
 pub offset_bounds-store-count : goal.offset_bounds-store-count
-offset_bounds-store-count c = scaled_Fits _ _ _ (place c.before.before) (room c.before.before.before)
+offset_bounds-store-count c = scaled_Fits _ _ _ (place c.before) (room c.before.before)
 
 pub bounds-store-count : goal.bounds-store-count
-bounds-store-count c = place c.before.before
+bounds-store-count c = place c.before
 
 pub overflow_add-a : goal.overflow_add-a
-overflow_add-a c = next_fits c.loop-a-test.true (room c.before.before.before)
+overflow_add-a c = next_fits c.loop-a-test.true (room c.before.before)
 
 pub overflow_add-count : goal.overflow_add-count
-overflow_add-count c = next_fits (place c.before.before) (room c.before.before.before)
+overflow_add-count c = next_fits (place c.before) (room c.before.before)
 
 pub loop-a-smaller : goal.loop-a-smaller
-loop-a-smaller c = falls _ _ (unread c.before.before)
+loop-a-smaller c = falls _ _ (unread c.before)
 
 pub loop-a-preserved : goal.loop-a-preserved
-loop-a-preserved c = (next_le _ _ (unread c.before.before), turn _ _ _ _ _ (unread c.before.before) c.loop-a.invariant.1)
-
-pub shape_of-store : goal.shape_of-store
-shape_of-store c = c.loop-a.invariant.1.size
+loop-a-preserved c = (next_le _ _ (unread c.before), turn _ _ _ _ _ (unread c.before) c.loop-a.invariant.1)
 
 pub returns : goal.returns
 returns c =

@@ -24,30 +24,6 @@ In-loop-a = lts.In-loop reads.Pre reads.Post goal.the-invariant-loop-a goal.the-
 abbrev Then-b-more : Type 0
 Then-b-more = lts.Then1 reads.Pre reads.Post goal.the-invariant-loop-a goal.the-decreases-loop-a
 
-abbrev Then-x-y : Type 0
-Then-x-y = lts.Then2 reads.Pre reads.Post goal.the-invariant-loop-a goal.the-decreases-loop-a
-
-abbrev Then-y-x : Type 0
-Then-y-x = lts.Then3 reads.Pre reads.Post goal.the-invariant-loop-a goal.the-decreases-loop-a
-
-abbrev Else-y-x : Type 0
-Else-y-x = lts.Else3 reads.Pre reads.Post goal.the-invariant-loop-a goal.the-decreases-loop-a
-
-abbrev in-loop-from-in-loop-then-then : Then-x-y → In-loop-a
-in-loop-from-in-loop-then-then c = c.before.before.before.before
-
-abbrev in-loop-then-from-in-loop-then-else-then : Then-y-x → Then-b-more
-in-loop-then-from-in-loop-then-else-then c = c.before.before.before.before
-
-abbrev in-loop-from-in-loop-then-else-then : Then-y-x → In-loop-a
-in-loop-from-in-loop-then-else-then c = (in-loop-then-from-in-loop-then-else-then c).before
-
-abbrev in-loop-then-from-in-loop-then-else-else : Else-y-x → Then-b-more
-in-loop-then-from-in-loop-then-else-else c = c.before.before.before.before
-
-abbrev in-loop-from-in-loop-then-else-else : Else-y-x → In-loop-a
-in-loop-from-in-loop-then-else-else c = (in-loop-then-from-in-loop-then-else-else c).before
-
 -- a turn passes a member of one list or of both
 less-first : (m n a b : ℕ) → a < m → (m - (a + 1)) + (n - b) < (m - a) + (n - b)
 less-first m n a b l = omega arith
@@ -63,7 +39,7 @@ first_left : (c : In-loop-a) → c.loop-a.a < length c.args.store.now
 first_left c = still_below c.loop-a-test.true (sym c.loop-a.invariant.2.size)
 
 second-left : (c : Then-b-more) → c.loop-a.b < length c.args.more.now
-second-left c = ltb-true _ _ c.if-b-more.true
+second-left c = ltb-true _ _ c.if-b-more.true-raw
 
 place : (c : In-loop-a) → c.loop-a.count < length c.loop-a.store
 place c = merge_place _ _ _ c.args.more.now _ c.loop-a.b _ c.loop-a.invariant.2 (first_left c)
@@ -88,108 +64,83 @@ bounds-more-b c = second-left c.before.before.before
 
 pub offset_bounds-store-count : goal.offset_bounds-store-count
 offset_bounds-store-count c =
-    let in-loop = in-loop-from-in-loop-then-then c.before in
-    scaled_Fits _ _ _ (place in-loop) (room in-loop.before)
+    scaled_Fits _ _ _ (place c.before.before.before.before.before) (room c.before.before.before.before.before.before)
 
 pub bounds-store-count : goal.bounds-store-count
-bounds-store-count c = place (in-loop-from-in-loop-then-then c.before)
+bounds-store-count c = place c.before.before.before.before.before
 
 pub overflow_add-a : goal.overflow_add-a
-overflow_add-a c =
-    let in-loop = in-loop-from-in-loop-then-then c.before in
-    next_fits c.loop-a-test.true (room in-loop.before)
+overflow_add-a c = next_fits c.loop-a-test.true (room c.before.before.before.before.before.before)
 
 pub overflow_add-count : goal.overflow_add-count
-overflow_add-count c =
-    let in-loop = in-loop-from-in-loop-then-then c.before in
-    next_fits (place in-loop) (room in-loop.before)
+overflow_add-count c = next_fits (place c.before.before.before.before.before) (room c.before.before.before.before.before.before)
 
 pub loop-a-smaller-then-x-y : goal.loop-a-smaller-then-x-y
-loop-a-smaller-then-x-y c = less-first _ _ _ _ (first_left (in-loop-from-in-loop-then-then c.before))
+loop-a-smaller-then-x-y c = less-first _ _ _ _ (first_left c.before.before.before.before.before)
 
 pub loop-a-preserved-then-x-y : goal.loop-a-preserved-then-x-y
 loop-a-preserved-then-x-y c =
-    let in-loop-then = c.before.before.before.before in
-    let p = first_left in-loop-then.before in
-    let i = in-loop-then.loop-a.invariant in
-    (next_le _ _ p, i.1, first_less _ _ _ _ _ _ _ i.2 p (second-left in-loop-then) c.if-x-y.true)
+    let p = first_left c.before.before.before.before.before in
+    let i = c.loop-a.invariant in
+    (next_le _ _ p, i.1, first_less _ _ _ _ _ _ _ i.2 p (second-left c.before.before.before.before) c.if-x-y.true)
 
 pub offset_bounds-store-count-then-y-x : goal.offset_bounds-store-count-then-y-x
 offset_bounds-store-count-then-y-x c =
-    let in-loop = in-loop-from-in-loop-then-else-then c.before in
-    scaled_Fits _ _ _ (place in-loop) (room in-loop.before)
+    scaled_Fits _ _ _ (place c.before.before.before.before.before.before) (room c.before.before.before.before.before.before.before)
 
 pub bounds-store-count-then-y-x : goal.bounds-store-count-then-y-x
-bounds-store-count-then-y-x c = place (in-loop-from-in-loop-then-else-then c.before)
+bounds-store-count-then-y-x c = place c.before.before.before.before.before.before
 
 pub overflow_add-b : goal.overflow_add-b
-overflow_add-b c =
-    let in-loop-then = in-loop-then-from-in-loop-then-else-then c.before in
-    next_fits (second-left in-loop-then) in-loop-then.good.1.1.0.1
+overflow_add-b c = next_fits (second-left c.before.before.before.before.before) c.well_formed.1.1.0.1
 
 pub overflow_add-count-then-y-x : goal.overflow_add-count-then-y-x
 overflow_add-count-then-y-x c =
-    let in-loop = in-loop-from-in-loop-then-else-then c.before in
-    next_fits (place in-loop) (room in-loop.before)
+    next_fits (place c.before.before.before.before.before.before) (room c.before.before.before.before.before.before.before)
 
 pub loop-a-smaller-then-y-x : goal.loop-a-smaller-then-y-x
-loop-a-smaller-then-y-x c = less-second _ _ _ _ (second-left (in-loop-then-from-in-loop-then-else-then c.before))
+loop-a-smaller-then-y-x c = less-second _ _ _ _ (second-left c.before.before.before.before.before)
 
 pub loop-a-preserved-then-y-x : goal.loop-a-preserved-then-y-x
 loop-a-preserved-then-y-x c =
-    let in-loop-then = in-loop-then-from-in-loop-then-else-then c.before in
-    let i = in-loop-then.loop-a.invariant in (
+    let i = c.loop-a.invariant in (
       i.0,
-      next_le _ _ (second-left in-loop-then),
-      second_less _ _ _ _ _ _ _ i.2 (first_left in-loop-then.before) (second-left in-loop-then) c.if-y-x.true,
+      next_le _ _ (second-left c.before.before.before.before.before),
+      second_less _ _ _ _ _ _ _ i.2 (first_left c.before.before.before.before.before.before) (second-left c.before.before.before.before.before) c.if-y-x.true,
     )
 
 pub offset_bounds-store-count-in-loop-a : goal.offset_bounds-store-count-in-loop-a
 offset_bounds-store-count-in-loop-a c =
-    let in-loop = in-loop-from-in-loop-then-else-else c.before in
-    scaled_Fits _ _ _ (place in-loop) (room in-loop.before)
+    scaled_Fits _ _ _ (place c.before.before.before.before.before.before) (room c.before.before.before.before.before.before.before)
 
 pub bounds-store-count-in-loop-a : goal.bounds-store-count-in-loop-a
-bounds-store-count-in-loop-a c = place (in-loop-from-in-loop-then-else-else c.before)
+bounds-store-count-in-loop-a c = place c.before.before.before.before.before.before
 
 pub overflow_add-a-in-loop-a : goal.overflow_add-a-in-loop-a
-overflow_add-a-in-loop-a c =
-    let in-loop = in-loop-from-in-loop-then-else-else c.before in
-    next_fits c.loop-a-test.true (room in-loop.before)
+overflow_add-a-in-loop-a c = next_fits c.loop-a-test.true (room c.before.before.before.before.before.before.before)
 
 pub overflow_add-b-in-loop-a : goal.overflow_add-b-in-loop-a
-overflow_add-b-in-loop-a c =
-    let in-loop-then = in-loop-then-from-in-loop-then-else-else c.before in
-    next_fits (second-left in-loop-then) in-loop-then.good.1.1.0.1
+overflow_add-b-in-loop-a c = next_fits (second-left c.before.before.before.before.before) c.well_formed.1.1.0.1
 
 pub overflow_add-count-in-loop-a : goal.overflow_add-count-in-loop-a
 overflow_add-count-in-loop-a c =
-    let in-loop = in-loop-from-in-loop-then-else-else c.before in
-    next_fits (place in-loop) (room in-loop.before)
+    next_fits (place c.before.before.before.before.before.before) (room c.before.before.before.before.before.before.before)
 
 pub loop-a-smaller : goal.loop-a-smaller
 loop-a-smaller c =
-    let in-loop-then = in-loop-then-from-in-loop-then-else-else c.before in
-    less_both _ _ _ _ (first_left in-loop-then.before) (second-left in-loop-then)
+    less_both _ _ _ _ (first_left c.before.before.before.before.before.before) (second-left c.before.before.before.before.before)
 
 pub loop-a-preserved : goal.loop-a-preserved
 loop-a-preserved c =
-    let in-loop-then = in-loop-then-from-in-loop-then-else-else c.before in
-    let p = first_left in-loop-then.before in
-    let q = second-left in-loop-then in
+    let p = first_left c.before.before.before.before.before.before in
+    let q = second-left c.before.before.before.before.before in
     let same = le_antisymm c.if-y-x.false c.if-x-y.false in
-    (next_le _ _ p, next_le _ _ q, both_same _ _ _ _ _ _ _ in-loop-then.loop-a.invariant.2 p q same)
-
-pub shape_of-store-else-b-more : goal.shape_of-store-else-b-more
-shape_of-store-else-b-more c = c.loop-a.invariant.2.size
+    (next_le _ _ p, next_le _ _ q, both_same _ _ _ _ _ _ _ c.loop-a.invariant.2 p q same)
 
 pub returns-else-b-more : goal.returns-else-b-more
 returns-else-b-more c =
     let i = c.loop-a.invariant in
-    record { first = i.0; second = i.1; filling = i.2; ended = inr (le_antisymm i.1 (ltb-false _ _ c.if-b-more.false)) }
-
-pub shape_of-store-after-loop-a : goal.shape_of-store-after-loop-a
-shape_of-store-after-loop-a c = c.loop-a.invariant.2.size
+    record { first = i.0; second = i.1; filling = i.2; ended = inr (le_antisymm i.1 (ltb-false _ _ c.if-b-more.false-raw)) }
 
 pub returns-after-loop-a : goal.returns-after-loop-a
 returns-after-loop-a c =

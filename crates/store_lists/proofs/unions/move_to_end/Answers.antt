@@ -40,28 +40,25 @@ pub overflow_sub-i : goal.overflow_sub-i
 overflow_sub-i c = c.loop-i-test.true
 
 pub offset_bounds-store-i : goal.offset_bounds-store-i
-offset_bounds-store-i c = scaled_Fits _ _ _ (inside c.before).0 (room c.before.before)
+offset_bounds-store-i c = scaled_Fits _ _ _ (inside c).0 (room c.before)
 
 pub bounds-store-i : goal.bounds-store-i
-bounds-store-i c = (inside c.before.before).0
+bounds-store-i c = (inside c.before).0
 
 pub overflow_add-store : goal.overflow_add-store
-overflow_add-store c = below_fits (inside c.before.before).1 (room c.before.before.before)
+overflow_add-store c = below_fits (inside c.before).1 (room c.before.before)
 
 pub offset_bounds-store-gap : goal.offset_bounds-store-gap
-offset_bounds-store-gap c = scaled_Fits _ _ _ (inside c.before.before).1 (room c.before.before.before)
+offset_bounds-store-gap c = scaled_Fits _ _ _ (inside c.before).1 (room c.before.before)
 
 pub bounds-store-gap : goal.bounds-store-gap
-bounds-store-gap c = (inside c.before.before).1
+bounds-store-gap c = (inside c.before).1
 
 pub loop-i-smaller : goal.loop-i-smaller
 loop-i-smaller c = falls_down _ c.loop-i-test.true
 
 pub loop-i-preserved : goal.loop-i-preserved
 loop-i-preserved c = move-turn _ _ _ (fills c.requires) _ _ c.loop-i-test.true c.loop-i.invariant
-
-pub shape_of-store : goal.shape_of-store
-shape_of-store c = c.loop-i.invariant.size
 
 pub returns : goal.returns
 returns c = move_end _ _ _ (fills c.requires) _ _ c.loop-i-test.false c.loop-i.invariant

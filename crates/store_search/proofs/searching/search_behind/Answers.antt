@@ -9,10 +9,9 @@ use Rattle.store_search.proofs.Passing.{place_left, passed_none, passed_on, pass
 use Rattle.store_search.proofs.searching.search_behind.Goals as goal
 use Rattle.store_search.proofs.searching.search_behind.Lts as lts
 use Rattle.store_search.proofs.searching.search_behind.Reads as reads
-use Rattle.store_search.proofs.searching.search_behind.Tie as tie
 
 abbrev After-place_of : Type 0
-After-place_of = lts.After-place_of tie.the-claims reads.Pre reads.Post goal.the-invariant-loop-b goal.the-decreases-loop-b
+After-place_of = lts.After-place_of reads.Pre reads.Post goal.the-invariant-loop-b goal.the-decreases-loop-b
 
 pub returns-then-size-eq0 : goal.returns-then-size-eq0
 returns-then-size-eq0 c = (search rules, behind-nothing _ _ c.if-size-eq0.true)
@@ -22,7 +21,6 @@ loop-b-init c = (search rules, search rules, passed_none _ _)
 
 pub returns-then-last-x : goal.returns-then-last-x
 returns-then-last-x c =
-    let at = c.before.before.before.before in
     (
       c.loop-b.invariant.1,
       passed_behind c.args.have.now c.args.more.now c.loop-b.a c.loop-b.b c.loop-b.invariant.2 (omega arith)
@@ -31,8 +29,6 @@ returns-then-last-x c =
 
 pub loop-b-preserved-then-have-a : goal.loop-b-preserved-then-have-a
 loop-b-preserved-then-have-a c =
-    let in-loop = c.before.before.before.before.before.before in
-    let at = in-loop.before in
     (
       search rules,
       search rules,
@@ -56,16 +52,11 @@ pub bounds-have-near : goal.bounds-have-near
 bounds-have-near c = short_of (near c.before.before.before) c.if-near-size.false
 
 pub overflow_add-a-in-loop-b : goal.overflow_add-a-in-loop-b
-overflow_add-a-in-loop-b c =
-    let at-place-of = c.before.before.before.before in
-    next_fits (short_of (near at-place-of) c.if-near-size.false) c.well_formed.0.1
+overflow_add-a-in-loop-b c = next_fits (short_of (near c.before.before.before.before) c.if-near-size.false) c.well_formed.0.1
 
 pub loop-b-preserved : goal.loop-b-preserved
 loop-b-preserved c =
-    let at-place-of = c.before.before.before.before in
-    let in-loop = at-place-of.before.before.before.before.before.before.before in
-    let at = in-loop.before in
-    let inside = short_of (near at-place-of) c.if-near-size.false in
+    let inside = short_of (near c.before.before.before.before) c.if-near-size.false in
     let left = c.loop-b-test.true in (
       next_le _ _ inside,
       next_le _ _ left,
@@ -74,5 +65,4 @@ loop-b-preserved c =
 
 pub returns : goal.returns
 returns c =
-    let at = c.before.before in
     (c.loop-b.invariant.1, passed_all c.args.have.now c.args.more.now c.loop-b.a c.loop-b.b c.loop-b.invariant.2 (omega arith))
