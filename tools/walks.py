@@ -283,8 +283,8 @@ class Function:
                 n = 0
             return root + ".before" * (n + (1 if wrapped else 0))
         text = re.sub(r"⟪(\d+)⟫((?:\.[\w'«»₀-₉]+(?:-[\w'₀-₉]+)*)*)", put, text)
-        # names for steps: `let judge = c.judge in` and what follows keeps its fields
-        return text
+        # a step that has a name of its own in a `let` keeps its old fields there
+        return re.sub(r"(?<=[\w)])\.inv(?![\w'-])", ".invariant", text)
 
     def branches(self, text):
         out, at = "", 0
@@ -460,12 +460,14 @@ def convert(folder, crate, path, table, made, source):
                 continue
             at = fn.named(table["asked_at"][k][0])
             args = args.split()
-            if new.split("-2")[0].endswith("-requires") and len(args) == 2 and args[1] == "κs":
+            if "-requires" in new and len(args) == 2 and args[1] == "κs":
                 args = args[:1]
             value = fn.expression(value, args[0] if args else None, at, bool(table["typed"][at]), paths)
             if new.startswith("returns"):
                 value = fn.record(value, fn.own[1], new)
-            called = re.match(r"(.*)-requires(?:-\d+)?$", new)
+            if table["asked"].get(table["needs"][k][0]):
+                value = fn.record(value, table["asked"][table["needs"][k][0]], new)
+            called = re.match(r"(.*)-requires(?:-.*)?$", new)
             if called:
                 for p in table["places"]:
                     if p[2][1] == called.group(1) and p[3]:
@@ -500,7 +502,7 @@ def convert(folder, crate, path, table, made, source):
     loops = [new for (old, new), _ in table["loops"]]
     given = "".join(" goal.the-invariant-%s" % n for n in loops) + "".join(" goal.the-decreases-%s" % n for n in loops)
     claims = " tie.the-claims" if any(p[3] for p in table["places"]) else ""
-    handed = " tie.handed_clauses" if len(fn.own[1]) > 1 else ""
+    handed = " tie.handed_clauses" if len(fn.own[1]) > 1 or table["asked"] else ""
     abbrevs = []
     for i in sorted(used):
         new = table["places_by_name"][i]

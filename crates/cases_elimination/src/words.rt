@@ -1,14 +1,14 @@
 // Standard input as numbers of two, four and eight bytes, low byte first.
 
 // The next number, or that the input has ended.
-#[derive(Drop)]
+#[derive(Clone, Copy)]
 enum Word {
     Value(usize),
     End,
 }
 
 // The next f64, or that the input has ended.
-#[derive(Drop)]
+#[derive(Clone, Copy)]
 enum Number {
     Value(f64),
     End,

@@ -4,7 +4,7 @@
 pub const LONGEST: usize = 20_000;
 
 // The next job's length, that there is none, or that the record is cut short or too long.
-#[derive(Drop)]
+#[derive(Clone, Copy)]
 pub enum Recorded {
     Job(usize),
     End,

@@ -1,14 +1,14 @@
 // Standard input as bytes and as f64s.
 
 // The next byte, or that the input has ended.
-#[derive(Drop)]
+#[derive(Clone, Copy)]
 pub enum Byte {
     Value(u8),
     End,
 }
 
 // The next f64, or that the input has ended.
-#[derive(Drop)]
+#[derive(Clone, Copy)]
 pub enum Number {
     Value(f64),
     End,

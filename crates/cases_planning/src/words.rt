@@ -1,7 +1,7 @@
 // Standard input as words of two bytes, low byte first.
 
 // The next word, or that the input has ended.
-#[derive(Drop)]
+#[derive(Clone, Copy)]
 enum Word {
     Value(usize),
     End,

@@ -1,7 +1,7 @@
 // Standard input, a request at a time.
 
 // A request: a byte that says what is asked, and two numbers.
-#[derive(Drop)]
+#[derive(Clone, Copy)]
 pub struct Request {
     // How many of its bytes the input had.
     pub bytes: usize,

@@ -3,7 +3,7 @@ use crate::{input, lending, show};
 use tally::Tally;
 
 // The record after a request, and whether there may be more: not where the input has ended, and not after a bad request.
-#[derive(Drop)]
+#[derive(Clone, Copy)]
 pub struct Served {
     pub record: Tally,
     pub more: bool,

@@ -14,7 +14,7 @@ pub const LONGEST: usize = JOB_BYTES;
 pub const ROOM: usize = ANSWER_ROOM;
 
 // The bytes that are printed, and how many they are; the rest is zero.
-#[derive(Drop)]
+#[derive(Clone, Copy)]
 pub struct JobAnswer {
     pub bytes: [u8; ANSWER_ROOM],
     pub count: usize,

@@ -9,7 +9,7 @@ use job_operands::{f64_at, u16_at};
 use job_sizes::LARGEST_N;
 
 // `at` is the next byte; `n` is 0 before N; `opened` says whether a row is open; `closed` rows are closed, `entries` entries and `chosen` rows of P were read.
-#[derive(Drop)]
+#[derive(Clone, Copy)]
 pub struct Progress {
     pub at: usize,
     pub n: usize,
@@ -20,7 +20,7 @@ pub struct Progress {
 }
 
 // What one command comes to.
-#[derive(Drop)]
+#[derive(Clone, Copy)]
 pub enum Turn {
     // reading goes on from here
     More(Progress),

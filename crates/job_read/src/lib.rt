@@ -13,7 +13,7 @@ use job_order::read_next;
 use job_sizes::JOB_BYTES;
 
 // How much a job has brought: n rows with their right sides, n + 1 starts, so many entries with their values, and the rows that P has named (none or n).
-#[derive(Drop)]
+#[derive(Clone, Copy)]
 pub struct Sizes {
     pub n: usize,
     pub entries: usize,
@@ -21,14 +21,14 @@ pub struct Sizes {
 }
 
 // What reading a job comes to: a refusal's number (its step is 0), or what stands in the stores.
-#[derive(Drop)]
+#[derive(Clone, Copy)]
 pub enum JobRead {
     Refused(usize),
     Read(Sizes),
 }
 
 // How the commands ended.
-#[derive(Drop)]
+#[derive(Clone, Copy)]
 enum Ending {
     Refused(usize),
     Read(Progress),

@@ -12,7 +12,7 @@ const VALUES: u32 = 2_001;
 const LARGEST: i32 = 1_000;
 
 // Whether a place is present, and the state once that is known.
-#[derive(Drop)]
+#[derive(Clone, Copy)]
 pub struct Asked {
     pub state: u32,
     pub present: bool,

@@ -6,7 +6,7 @@ ghost use Rattle.load_rows.specs.Laid.{RowLaid, LoadLaid, Blank};
 use load_draw::{ask, step, value_at};
 
 // Where the entries end behind a row, and the state after it.
-#[derive(Drop)]
+#[derive(Clone, Copy)]
 pub struct RowEnd {
     pub entries: usize,
     pub state: u32,

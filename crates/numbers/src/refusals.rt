@@ -7,7 +7,7 @@ ghost use Rattle.numbers.specs.Numbered.{refusal_by};
 use answers::{Refusal, RunReason};
 
 // A refusal's number and step.
-#[derive(Drop)]
+#[derive(Clone, Copy)]
 pub struct NumberAndStep {
     pub number: usize,
     pub step: usize,

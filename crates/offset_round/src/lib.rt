@@ -5,7 +5,7 @@ ghost use Rattle.foundation.specs.OffsetRounding.{rounded_to};
 ghost use Rattle.offset_round.specs.Sizes.{nearest_size, Small, rounding_of, Proper};
 
 // What an f64 goes to.
-#[derive(Drop)]
+#[derive(Clone, Copy)]
 pub enum Rounding {
     // A whole number: below zero or not, and its size; zero is not below zero.
     To(bool, u64),

@@ -45,14 +45,14 @@ pub fn joins_last(
 
 // What a row adds behind the list of the step before: how many members of that list stand in both, and from which place on what the row
 // brings stands behind them; or that it adds elsewhere too, or that the list does not end its store.
-#[derive(Drop)]
+#[derive(Clone, Copy)]
 pub enum Added {
     Behind(usize, usize),
     Elsewhere,
 }
 
 // Where the list of step k-1 lies, if it ends its store.
-#[derive(Drop)]
+#[derive(Clone, Copy)]
 pub enum Last {
     Members(SubscriptPlace, SubscriptPlace),
     Before,

@@ -8,7 +8,7 @@ ghost use Rattle.plan_lists.specs.Lying.{ListsAt};
 // Where the kept list of L_k or U_k lies: at the front of its growing store, so many members long; nowhere but in the pattern, being what the one row first met
 // brings (in L its number, in U its columns) without k; in its side's own store, as the list of the sole step in S_k less its first member, which is k; or at the
 // end of that store, as so many members that stand there and what the one row first met brings from a place on.
-#[derive(Drop)]
+#[derive(Clone, Copy)]
 pub enum Lies {
     Grown(usize),
     Row,
@@ -17,7 +17,7 @@ pub enum Lies {
 }
 
 // Both lists of the step at hand, and the reads so far.
-#[derive(Drop)]
+#[derive(Clone, Copy)]
 pub struct Lists {
     pub lower: Lies,
     pub upper: Lies,

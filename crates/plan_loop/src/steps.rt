@@ -10,7 +10,7 @@ use answers::SubscriptPlace;
 use plan_step::{Turned, plan_step};
 
 // How planning ends: where both stores end and the reads, or the step at which an L or a U subscript does not fit.
-#[derive(Drop)]
+#[derive(Clone, Copy)]
 pub enum Ended {
     All(SubscriptPlace, SubscriptPlace, usize),
     LowerAt(usize),

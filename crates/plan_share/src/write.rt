@@ -9,7 +9,7 @@ use store_lists::append;
 use store_place::list_place;
 
 // Where a store ends once a list is in it, or that it is too short for the list.
-#[derive(Drop)]
+#[derive(Clone, Copy)]
 pub enum Placed {
     End(SubscriptPlace),
     Short,

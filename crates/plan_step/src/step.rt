@@ -12,7 +12,7 @@ use plan_share::Placed;
 use plan_turn::step_lists;
 
 // How a step ends: on to the next with where both stores end and the reads so far, or with the first side that is full.
-#[derive(Drop)]
+#[derive(Clone, Copy)]
 pub enum Turned {
     On(SubscriptPlace, SubscriptPlace, usize),
     LowerFull,

@@ -4,7 +4,7 @@ ghost use Rattle.run_column.specs.Column.{ColumnAsks, ColumnLeaves};
 mod loops;
 
 // A step's flag, 1 once something is not finite, and a count: of numbers that are not zero, or of updates.
-#[derive(Drop)]
+#[derive(Clone, Copy)]
 pub struct FlagCount {
     pub flag: usize,
     pub count: usize,

@@ -12,7 +12,7 @@ use crate::lending::{all_finite, lending_fits, rows_in_range};
 use answers::{Extent, PivotChoice, Refusal, RunReason, VerifyAnswer};
 
 // Whether a run may begin, or why not.
-#[derive(Drop)]
+#[derive(Clone, Copy)]
 pub enum Judgement {
     MayRun,
     Refused(RunReason),

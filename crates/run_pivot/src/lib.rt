@@ -6,7 +6,7 @@ mod choosing;
 use choosing::{largest_row, listed_row};
 
 // A pivot row, 0 where there is none, and where it stands in the list of its column if it is not the step's own row.
-#[derive(Drop)]
+#[derive(Clone, Copy)]
 pub struct Found {
     pub row: usize,
     pub place: usize,

@@ -1,7 +1,7 @@
 // What the crates of the elimination share: how a step and back substitution end, and the definitions and laws of stores that show a square.
 
 // How a step of the elimination ended.
-#[derive(Drop)]
+#[derive(Clone, Copy)]
 pub enum StepEnd {
     // done, with its pivot row and its updates
     Went(usize, usize),
@@ -12,7 +12,7 @@ pub enum StepEnd {
 }
 
 // How back substitution ended.
-#[derive(Drop)]
+#[derive(Clone, Copy)]
 pub enum SolveEnd {
     // every row is solved
     Solved,

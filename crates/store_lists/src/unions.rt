@@ -17,7 +17,7 @@ fn move_to_end(store: &mut [usize], count: usize)
 }
 
 // How far a merge has come: the place in the store, that in the second list, and how many numbers are written.
-#[derive(Drop)]
+#[derive(Clone, Copy)]
 pub struct Merged {
     pub a: usize,
     pub b: usize,

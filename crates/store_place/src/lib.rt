@@ -4,7 +4,7 @@ ghost use Rattle.store_place.specs.Places.{ListAsks, ListAt};
 use answers::{SlotPlace, SubscriptPlace};
 
 // Where a list lies: its subscripts from `from` to before `to`, its slots from `slot` to before `next`, where the next list's begin.
-#[derive(Drop)]
+#[derive(Clone, Copy)]
 pub struct ListPlace {
     pub from: SubscriptPlace,
     pub to: SubscriptPlace,

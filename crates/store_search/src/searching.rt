@@ -4,7 +4,7 @@ ghost use Rattle.store_search.specs.Behind.{BehindAs};
 use crate::finding::place_of;
 
 // How a second list lies to a first: from some place on behind it, all before that place being members of it; or not so.
-#[derive(Drop)]
+#[derive(Clone, Copy)]
 pub enum Behind {
     From(usize),
     Between,

@@ -12,13 +12,13 @@ pub const MEMBERS: usize = 16;
 const LARGEST_SUM: usize = 4_294_967_295;
 
 // The record that stays with the caller: a counter for each member, member 1's first.
-#[derive(Drop)]
+#[derive(Clone, Copy)]
 pub struct Tally {
     pub counters: [u32; MEMBERS],
 }
 
 // What adding answers.
-#[derive(Drop)]
+#[derive(Clone, Copy)]
 pub enum TallyAnswer {
     // The member's new sum.
     Sum(u32),
@@ -29,14 +29,14 @@ pub enum TallyAnswer {
 }
 
 // The record as it is to be, and the answer.
-#[derive(Drop)]
+#[derive(Clone, Copy)]
 pub struct Added {
     pub tally: Tally,
     pub answer: TallyAnswer,
 }
 
 // One counter as it is to be, and the answer.
-#[derive(Drop)]
+#[derive(Clone, Copy)]
 struct Counted {
     sum: u32,
     answer: TallyAnswer,

@@ -11,7 +11,7 @@ use plan_turn::step_lists;
 use verify_sides::{Verified, find_lower, find_upper};
 
 // What steps compared so far come to: where both sides' used subscripts end and the reads, or that the lent plan differs.
-#[derive(Drop)]
+#[derive(Clone, Copy)]
 pub enum Compared {
     Agrees(SubscriptPlace, SubscriptPlace, usize),
     Differs,

@@ -9,7 +9,7 @@ use answers::SubscriptPlace;
 use plan_share::{shared_end, stands_at};
 
 // Where the used part of a store ends once a list is found in it, or that it is another list.
-#[derive(Drop)]
+#[derive(Clone, Copy)]
 pub enum Verified {
     End(SubscriptPlace),
     Differs,

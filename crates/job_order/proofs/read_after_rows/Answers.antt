@@ -51,7 +51,7 @@ returns-then-chosen-eq0 c =
     }
 
 pub read_z-requires-then-left-eq0 : goal.read_z-requires-then-left-eq0
-read_z-requires-then-left-eq0 c κs = (c.requires.0, c.requires.2)
+read_z-requires-then-left-eq0 c = (c.requires.0, c.requires.2)
 
 pub returns-then-left-eq0 : goal.returns-then-left-eq0
 returns-then-left-eq0 c =

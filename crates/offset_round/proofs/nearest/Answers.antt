@@ -10,7 +10,7 @@ use Rattle.offset_round.proofs.nearest.Reads as reads
 use Rattle.offset_round.proofs.nearest.Tie as tie
 
 abbrev After-truncating_f64_to_u64-whole : Type 0
-After-truncating_f64_to_u64-whole = lts.After-truncating_f64_to_u64 tie.the-claims reads.Pre reads.Post
+After-truncating_f64_to_u64-whole = lts.After-truncating_f64_to_u64 tie.the-claims reads.Pre reads.Post tie.handed_clauses
 
 -- the magnitude, its whole part, and what is known of them
 abbrev magnitude : After-truncating_f64_to_u64-whole → Float
@@ -23,7 +23,11 @@ part : (k : After-truncating_f64_to_u64-whole) → (whole k ≡ num (magnitude k
 part k = part_of (magnitude k) k.requires (whole k) k.truncating_f64_to_u64-whole.ensures
 
 pub truncating_f64_to_u64-whole-requires : goal.truncating_f64_to_u64-whole-requires
-truncating_f64_to_u64-whole-requires c = (above_minus_one _ c.requires, below_word _ c.requires)
+truncating_f64_to_u64-whole-requires c =
+    record {
+      lower_bound = above_minus_one _ c.requires;
+      upper_bound = below_word _ c.requires;
+    }
 
 pub overflow_mul-half : goal.overflow_mul-half
 overflow_mul-half c = record { fits = omega (arith, (part c).1) }

@@ -32,8 +32,8 @@ loop-i-preserved c =
     let l = c.loop-i in
     let e = c.put_spaced-end.ensures in (
       next_le _ _ c.loop-i-test.true,
-      lines_more 21 _ l.i l.inv.1 e.1,
-      numbers-turn c.args.numbers.now l.i c.loop-i-test.true l.inv.2 e.0,
+      lines_more 21 _ l.i l.invariant.1 e.1,
+      numbers-turn c.args.numbers.now l.i c.loop-i-test.true l.invariant.2 e.0,
     )
 
 pub returns : goal.returns

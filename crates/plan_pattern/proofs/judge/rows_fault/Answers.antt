@@ -36,14 +36,14 @@ returns-then-not-has_diagonal c =
     let l = c.loop-i in
     let fault = c.entries_fault-fault in
     let lacks = sym (not-true _ c.if-not-has_diagonal.true-raw) ∙ c.has_diagonal.ensures in
-    sym (rows_lack _ _ _ l.inv.1 l.i (search rules) _ _ fault.ensures c.if-fault-ne0.false lacks) ∙ l.inv.2
+    sym (rows_lack _ _ _ l.invariant.1 l.i (search rules) _ _ fault.ensures c.if-fault-ne0.false lacks) ∙ l.invariant.2
 
 pub loop-i-preserved : goal.loop-i-preserved
 loop-i-preserved c =
     let l = c.loop-i in
     let fault = c.entries_fault-fault in
     let found = sym (not-false _ c.if-not-has_diagonal.false-raw) ∙ c.has_diagonal.ensures in
-    (search rules, l.inv.1, sym (rows_pass _ _ _ l.inv.1 l.i (search rules) _ _ fault.ensures c.if-fault-ne0.false found) ∙ l.inv.2)
+    (search rules, l.invariant.1, sym (rows_pass _ _ _ l.invariant.1 l.i (search rules) _ _ fault.ensures c.if-fault-ne0.false found) ∙ l.invariant.2)
 
 pub returns : goal.returns
 returns c =

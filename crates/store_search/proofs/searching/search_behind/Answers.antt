@@ -9,9 +9,10 @@ use Rattle.store_search.proofs.Passing.{place_left, passed_none, passed_on, pass
 use Rattle.store_search.proofs.searching.search_behind.Goals as goal
 use Rattle.store_search.proofs.searching.search_behind.Lts as lts
 use Rattle.store_search.proofs.searching.search_behind.Reads as reads
+use Rattle.store_search.proofs.searching.search_behind.Tie as tie
 
 abbrev After-place_of : Type 0
-After-place_of = lts.After-place_of reads.Pre reads.Post goal.the-invariant-loop-b goal.the-decreases-loop-b
+After-place_of = lts.After-place_of tie.the-claims reads.Pre reads.Post goal.the-invariant-loop-b goal.the-decreases-loop-b
 
 pub returns-then-size-eq0 : goal.returns-then-size-eq0
 returns-then-size-eq0 c = (search rules, behind-nothing _ _ c.if-size-eq0.true)
