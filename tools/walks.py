@@ -502,7 +502,7 @@ def convert(folder, crate, path, table, made, source):
     loops = [new for (old, new), _ in table["loops"]]
     given = "".join(" goal.the-invariant-%s" % n for n in loops) + "".join(" goal.the-decreases-%s" % n for n in loops)
     claims = " tie.the-claims" if any(p[3] for p in table["places"]) else ""
-    handed = " tie.handed_clauses" if len(fn.own[1]) > 1 or table["asked"] else ""
+    handed = " tie.handed_clauses" if max(map(len, fn.own)) > 1 or table["asked"] else ""
     abbrevs = []
     for i in sorted(used):
         new = table["places_by_name"][i]
