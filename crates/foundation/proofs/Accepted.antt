@@ -1,23 +1,23 @@
 -- What planning leaves in its stores is the plan that a later call compares it with.
-use mathlib.Core.Bool.{Bool, true, false, not, cond, ◌&&◌}
+use mathlib.Core.Bool.{true, not, cond}
 use mathlib.Core.Path.{◌≡◌, refl, sym, ap, ◌∙◌}
-use Prim.Native.Nat.{ℕ, zero, suc, ◌≤◌}
+use Prim.Native.Nat.{ℕ, suc}
 use native.Mathlib.Omega.{arith}
 use lib.Dec.{eqb}
-use lib.ListN.{length, take}
+use lib.ListN.{length}
 use borrow.Author.Tests.{eq-eqb, eqb-true}
 use Rattle.lists.specs.Functions.{padded}
-use Rattle.lists.proofs.Members.{by_test, and_left, and_right, and_both, same_self}
-use Rattle.lists.proofs.Places.{padded-take, padded-full, length-padded}
-use Rattle.foundation.specs.Answer.{Answer, refused, granted, refuse_if, and_then, result_store}
+use Rattle.lists.proofs.Members.{by_test, and_left, and_right, same_self}
+use Rattle.lists.proofs.Places.{padded-take, padded-full}
+use Rattle.foundation.specs.Answer.{refused, granted, refuse_if, and_then, result_store}
 use Rattle.foundation.specs.Claims.{PlanAccepted}
-use Rattle.foundation.specs.Pattern.{Lent, Pattern, pattern_of, pattern_fault, judged}
+use Rattle.foundation.specs.Pattern.{Lent, pattern_of, pattern_fault, judged}
 use Rattle.foundation.specs.Plan.{Planning, Side, lower, upper, plan}
-use Rattle.foundation.specs.PlanCall.{Counts, SideStores, PlanStores, WorkSizes, subscripts, counts_of, starts_sized, work_fits, sizes_fit, planned, subscripts_after, starts_after, slot_starts_after, side_after, plan_leaves, same_counts, same_side, agrees, held_if, held}
+use Rattle.foundation.specs.PlanCall.{Counts, SideStores, PlanStores, WorkSizes, subscripts, counts_of, starts_sized, sizes_fit, planned, subscripts_after, starts_after, slot_starts_after, side_after, plan_leaves, same_counts, same_side, agrees, held_if, held}
 use Rattle.foundation.specs.Slots.{slot_starts}
-use Rattle.foundation.specs.Subscripts.{shared, starts_store, room_fault}
+use Rattle.foundation.specs.Subscripts.{starts_store, room_fault}
 use Rattle.foundation.proofs.Alike.{judged_passes}
-use Rattle.foundation.proofs.Room.{room_same, granted-fits}
+use Rattle.foundation.proofs.Room.{room_same}
 use Rattle.foundation.proofs.Starts.{length-starts, length-slot-starts}
 
 -- the counts are their own

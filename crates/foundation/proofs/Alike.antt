@@ -1,11 +1,10 @@
 -- The run in the slots is what the full square's is: the definitions of the answer and of the stores afterwards, read at every place.
-use mathlib.Core.Bool.{Bool, true, false, not, cond}
+use mathlib.Core.Bool.{true, false}
 use mathlib.Core.List.{List, [], ◌∷◌, ◌++◌, map}
 use mathlib.Core.Path.{◌≡◌, refl, sym, ap, ◌∙◌}
-use Prim.Native.Nat.{ℕ, zero, suc, ◌+◌, ◌-◌, ◌≤◌, ◌<◌}
-use native.Mathlib.Decide.{dec_lt}
+use Prim.Native.Nat.{ℕ, zero, suc, ◌-◌, ◌≤◌}
 use native.Mathlib.Omega.{arith}
-use lib.Dec.{eqb, leb}
+use lib.Dec.{eqb}
 use lib.Ieee.{Float}
 use lib.ListN.{length, get_or, take, replicate, length-map}
 use lib.Seq.{take-suc}
@@ -14,19 +13,19 @@ use Rattle.lists.specs.Functions.{padded}
 use Rattle.lists.specs.Sets.{upto}
 use Rattle.lists.proofs.Members.{by_test, and_left, and_right}
 use Rattle.lists.proofs.Places.{length-upto, padded-full}
-use Rattle.foundation.specs.Answer.{Answer, refused, granted, refuse_if, and_then, result_store}
+use Rattle.foundation.specs.Answer.{granted, refuse_if, and_then, result_store}
 use Rattle.foundation.specs.Claims.{RunAlike, RunIs, RunsAlike, ListedPivots, PivotsCounted, ZeroOutside}
 use Rattle.foundation.specs.Facts.{Plannable, PlanFacts}
 use Rattle.foundation.specs.Numbers.{plus_zero, may_pivot}
 use Rattle.foundation.specs.Pattern.{Lent, Pattern, pattern_of, pattern_fault, judged}
-use Rattle.foundation.specs.Plan.{Planning, Side, lower, upper, plan}
+use Rattle.foundation.specs.Plan.{Planning, lower, upper, plan}
 use Rattle.foundation.specs.PlanCall.{LentPlan, WorkSizes, sizes_fit, agrees, held_if, held}
-use Rattle.foundation.specs.Reference.{Choice, listed, Extent, steps_of, Going, Course, going, stopped, number_of, pivot_row, running, starting, stepped, reference}
-use Rattle.foundation.specs.RunCall.{Lending, lending_fits, all_finite, choice_fits, extent_fits, order_fits, may_run, value_at, right_at, Ran, course_answer, ran_with, ran, run_answer, slots_after, diagonal_after, solution_after, pivots_after, run_leaves}
-use Rattle.foundation.specs.Shown.{shown, shown_diagonal, slot_read, laid}
-use Rattle.foundation.specs.Slots.{Slot, none, on_diagonal, in_side, slot_at, has_slot, slots_of}
+use Rattle.foundation.specs.Reference.{Choice, listed, Extent, steps_of, Going, Course, going, stopped, pivot_row, running, starting, stepped, reference}
+use Rattle.foundation.specs.RunCall.{Lending, lending_fits, all_finite, choice_fits, extent_fits, order_fits, may_run, value_at, right_at, course_answer, ran_with, ran, run_answer, slots_after, diagonal_after, solution_after, pivots_after, run_leaves}
+use Rattle.foundation.specs.Shown.{slot_read, laid}
+use Rattle.foundation.specs.Slots.{Slot, none, on_diagonal, in_side, slot_at, has_slot}
 use Rattle.foundation.specs.Square.{Square}
-use Rattle.foundation.proofs.FloatRun.{Did, run_did, run_to, pivots-length, reference_keeps, steps_fit, zero-outside-from}
+use Rattle.foundation.proofs.FloatRun.{run_did, run_to, pivots-length, reference_keeps, steps_fit, zero-outside-from}
 use Rattle.foundation.proofs.LaidBack.{laid-back}
 
 -- ---- the answer

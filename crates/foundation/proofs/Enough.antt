@@ -1,25 +1,24 @@
 -- Room enough: no plan of n columns has more than n(n-1)/2 slots or subscripts a side, but for n more of L's for each row above n.
-use mathlib.Core.Bool.{true, false, cond, not}
-use mathlib.Core.List.{List, [], ◌∷◌, ◌++◌}
-use mathlib.Core.Path.{◌≡◌, refl, sym, ap, ◌∙◌}
-use Prim.Native.Nat.{ℕ, zero, suc, ◌+◌, ◌-◌, ◌*◌, ◌≤◌, ◌<◌}
+use mathlib.Core.Bool.{true, not}
+use mathlib.Core.Path.{◌≡◌, refl, ap, ◌∙◌}
+use Prim.Native.Nat.{ℕ, zero, suc, ◌+◌, ◌-◌, ◌*◌, ◌≤◌}
 use native.Mathlib.Nat.{zero-mul, suc-mul, mul-suc, mul-zero}
 use native.Mathlib.Omega.{arith}
 use lib.Dec.{eqb, ltb}
-use lib.ListN.{length, drop, length-append, length-drop}
-use Rattle.lists.specs.Functions.{keep, empty}
+use lib.ListN.{length, length-append, length-drop}
+use Rattle.lists.specs.Functions.{empty}
 use Rattle.lists.specs.Sets.{member, Ascending}
 use Rattle.lists.proofs.Members.{by_test}
 use Rattle.lists.proofs.Order.{ascending-length, ascending-keep, ascending_raise, member-low}
 use Rattle.lists.proofs.Small.{less_one}
-use Rattle.foundation.specs.Answer.{granted, refuse_if, and_then}
+use Rattle.foundation.specs.Answer.{refuse_if, and_then}
 use Rattle.foundation.specs.Claims.{twice_enough, RoomEnough, SlotsEnough}
 use Rattle.foundation.specs.Facts.{Plannable, PlanFacts}
 use Rattle.foundation.specs.Pattern.{Lent, Pattern, pattern_of, pattern_fault}
 use Rattle.foundation.specs.Plan.{Planning, Side, lower, upper, list, plan}
 use Rattle.foundation.specs.PlanCall.{planned}
 use Rattle.foundation.specs.Slots.{slots_of}
-use Rattle.foundation.specs.Subscripts.{Shared, kept, sole_step, shared_end, shared, added_at}
+use Rattle.foundation.specs.Subscripts.{Shared, kept, sole_step, shared, added_at}
 use Rattle.foundation.proofs.Alike.{judged_passes}
 use Rattle.foundation.proofs.LaidBack.{kept_listed, kept_other}
 use Rattle.foundation.proofs.Opening.{store_next}

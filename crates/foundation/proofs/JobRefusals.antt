@@ -5,11 +5,8 @@ use Prim.Native.Nat.{ℕ, zero, suc, ◌≤◌}
 use native.Mathlib.Omega.{arith}
 use lib.Dec.{eqb, ltb, leb}
 use lib.ListN.{length}
-use Rattle.lists.specs.Sets.{member}
-use Rattle.lists.proofs.Members.{by_test}
 use Rattle.foundation.specs.Answer.{Answer, refused, granted}
 use Rattle.foundation.specs.Job.{Job, Reading, Next, more, over, read_n, read_r, read_e, read_b, read_p, read_z, command, next, operand, cut_short, misplaced, reading, max_job_n}
-use Rattle.foundation.specs.Pattern.{Lent, entries_fault, first_fault, row_of, row_fault, rows_fault, too_large, starts_fit, pattern_fault}
 use Rattle.foundation.specs.Reference.{step}
 
 -- ---- reading

@@ -1,10 +1,10 @@
 -- Each place that has a slot has one of its own: what all slots show of a square that differs at one place differs at that place's slot alone.
-use mathlib.Core.Bool.{true, false, cond, ◌&&◌, false≢true}
+use mathlib.Core.Bool.{true, cond, ◌&&◌, false≢true}
 use mathlib.Core.Path.{◌≡◌, refl, sym, ap, ◌∙◌}
 use Prim.Native.Nat.{ℕ, zero, suc, ◌+◌, ◌-◌, ◌≤◌, ◌<◌}
 use native.Mathlib.Omega.{arith}
 use lib.Dec.{eqb}
-use lib.Ieee.{Float, nan, fin}
+use lib.Ieee.{Float, nan}
 use borrow.Author.Tests.{eqb-true, eq-eqb, lt-ltb}
 use Rattle.lists.specs.Sets.{member, index_of}
 use Rattle.lists.proofs.Members.{by_test, and_left, and_right}
@@ -13,7 +13,7 @@ use Rattle.foundation.specs.Claims.{OwnSlots, slot_within, SlotsWithin}
 use Rattle.foundation.specs.Numbers.{plus_zero}
 use Rattle.foundation.specs.Plan.{Planning, Side, lower, upper}
 use Rattle.foundation.specs.Shown.{at_side, shown, shown_diagonal, slot_read}
-use Rattle.foundation.specs.Slots.{has_slot, none, slot_at, slots_of}
+use Rattle.foundation.specs.Slots.{has_slot, slot_at, slots_of}
 use Rattle.foundation.specs.Square.{Square}
 use Rattle.foundation.specs.Subscripts.{kept}
 use Rattle.foundation.proofs.LaidBack.{SlotCase, diagonal-slot, upper_slot, lower_slot, no_slot, slot-case, slot_none, none_no_slot, shown_reads, diagonal_reads}

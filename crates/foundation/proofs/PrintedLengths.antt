@@ -12,7 +12,7 @@ use Rattle.lists.proofs.Members.{upto-high}
 use Rattle.lists.proofs.Places.{length-chain, length-upto}
 use Rattle.foundation.specs.Numbers.{bits_of}
 use Rattle.foundation.specs.Pattern.{Lent}
-use Rattle.foundation.specs.Plan.{Side, lower, upper, plan}
+use Rattle.foundation.specs.Plan.{Side, lower, upper}
 use Rattle.foundation.specs.PlanCall.{counts_of, subscripts}
 use Rattle.foundation.specs.Printing.{spaced, hex_bits, line_numbers, plan_line, rows_line, solution_line, updates_line, refused_line, report}
 use Rattle.foundation.specs.Reference.{Going, step}

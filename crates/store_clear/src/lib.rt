@@ -1,4 +1,6 @@
 // Stores that are cleared, or filled with one value: those of every part.
+#![tactic(auto)]
+
 mod floats;
 mod numbers;
 

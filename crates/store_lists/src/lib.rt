@@ -1,4 +1,6 @@
 // Functions on plain stores: clearing them, merging lists in them, chains, places. They know nothing of a plan.
+#![tactic(auto)]
+
 mod chains;
 mod clear;
 mod places;

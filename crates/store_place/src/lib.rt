@@ -1,4 +1,6 @@
 // Where the lists of a side lie: among its subscripts, and among its value slots.
+#![tactic(auto)]
+
 ghost use Rattle.store_place.specs.Places.{ListAsks, ListAt};
 
 use answers::{SlotPlace, SubscriptPlace};

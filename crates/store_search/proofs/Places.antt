@@ -1,14 +1,13 @@
 -- Laws of where a subscript stands in an ascending list.
 use mathlib.Core.Bool.{true, false}
-use mathlib.Core.List.{List, [], ◌∷◌}
+use mathlib.Core.List.{List}
 use mathlib.Core.Path.{◌≡◌}
-use Prim.Native.Nat.{ℕ, zero, suc, ◌+◌, ◌≤◌, ◌<◌}
+use Prim.Native.Nat.{ℕ, ◌+◌, ◌≤◌, ◌<◌}
 use native.Mathlib.Decide.{dec_lt}
 use native.Mathlib.Omega.{arith}
 use lib.ListN.{length, get_or}
 use Rattle.lists.specs.Sets.{member, Ascending, index_of}
 use Rattle.lists.proofs.Members.{fails}
-use Rattle.lists.proofs.Order.{member-low}
 use Rattle.lists.proofs.Places.{ascending_at, ascending_below, index_at, index_below}
 use Rattle.store_search.specs.Places.{FirstFrom}
 

@@ -1,5 +1,5 @@
 -- Back substitution and its 14. Below each sentence stand the rows of the square, each with its right side, as numbers.
-use Rattle.std.specs.Prelude.{List, [], ◌∷◌, ℕ}
+use Rattle.std.specs.Prelude.{List, [], ◌∷◌}
 use Rattle.foundation.specs.Reference.{listed, whole}
 use Rattle.foundation.specs.Table.{Case, case}
 use Rattle.foundation.specs.Cases.Reference.{two, solve}

@@ -1,6 +1,5 @@
 -- The job: where each command may stand, its operands, 1 at N and 15 to 18.
 use Rattle.std.specs.Prelude.{true, List, [], ◌∷◌, ◌++◌, map, ℕ, take, replicate}
-use Rattle.foundation.specs.Answer.{Answer}
 use Rattle.foundation.specs.Reference.{Choice, largest, listed}
 use Rattle.foundation.specs.Job.{max_job_bytes, max_job_n, little_endian, Reading, nothing_read, Job, Next, more, over, read_n, read_r, read_e, read_b, read_p, read_z, reading, read_job}
 use Rattle.foundation.specs.Table.{Case, case, told}

@@ -6,7 +6,7 @@ use Rattle.foundation.specs.Reference.{largest, Going}
 use Rattle.foundation.specs.RunCall.{Lending}
 use Rattle.foundation.specs.Text.{ascii}
 use Rattle.foundation.specs.Job.{Job}
-use Rattle.foundation.specs.Printing.{job_room, fitting_work, blank_side, blank_stores, job_lending, job_stores, job_run, digits, decimal, hex_digit, hex_bits, plan_line, rows_line, solution_line, updates_line, refused_line, job_text, printed}
+use Rattle.foundation.specs.Printing.{job_room, fitting_work, blank_stores, job_lending, job_stores, job_run, digits, decimal, hex_digit, hex_bits, plan_line, rows_line, solution_line, updates_line, refused_line, job_text, printed}
 use Rattle.foundation.specs.Table.{Case, case, told}
 use Rattle.foundation.specs.Marked.{bytes, show_pivots}
 use Rattle.foundation.specs.Cases.Show.{floats, float, patterns, row}

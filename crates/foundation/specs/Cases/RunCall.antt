@@ -1,12 +1,12 @@
 -- The run's call: 10 to 14, its answer, and its stores afterwards.
 use Rattle.std.specs.Prelude.{List, [], ◌∷◌, ◌++◌, map, ℕ, replicate}
 use Rattle.foundation.specs.Answer.{Answer}
-use Rattle.foundation.specs.Pattern.{Lent, lent_square, Pattern}
+use Rattle.foundation.specs.Pattern.{Lent, lent_square}
 use Rattle.foundation.specs.Reference.{Choice, largest, listed, Extent, whole, cut}
-use Rattle.foundation.specs.PlanCall.{Counts, SideStores, WorkSizes, LentPlan}
-use Rattle.foundation.specs.RunCall.{Lending, Ran, RunStores, ran, run_answer, run_leaves, legal, rows_in_range, choice_fits, extent_fits, value_at, right_at}
+use Rattle.foundation.specs.PlanCall.{LentPlan}
+use Rattle.foundation.specs.RunCall.{Lending, Ran, ran, run_answer, run_leaves, legal, rows_in_range, choice_fits, extent_fits, value_at, right_at}
 use Rattle.foundation.specs.Table.{Case, case, told}
-use Rattle.foundation.specs.Cases.Show.{flag, flags, floats, pattern, patterns, places, refusal_number, row, tall}
+use Rattle.foundation.specs.Cases.Show.{flag, flags, floats, pattern, patterns, refusal_number, row, tall}
 use Rattle.foundation.specs.Cases.PlanCall.{work}
 use Rattle.foundation.specs.Cases.LentPlan.{counts_from, side}
 

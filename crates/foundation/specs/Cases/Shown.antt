@@ -1,5 +1,5 @@
 -- The square as the slots show it, and laid back.
-use Rattle.std.specs.Prelude.{List, [], ◌∷◌, map, ℕ, ◌+◌, ◌*◌, Float}
+use Rattle.std.specs.Prelude.{List, [], ◌∷◌, ◌+◌, ◌*◌, Float}
 use Rattle.foundation.specs.Pattern.{pattern_of}
 use Rattle.foundation.specs.Plan.{lower, upper, plan}
 use Rattle.foundation.specs.Square.{Square}

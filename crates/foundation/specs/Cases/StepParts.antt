@@ -1,6 +1,5 @@
 -- The parts of a step and of back substitution, one by one: which rows, columns and numbers each looks at.
 use Rattle.std.specs.Prelude.{Bool, true, false, cond, ◌&&◌, List, [], ◌∷◌, ◌++◌, map, ℕ, eqb, Float}
-use Rattle.foundation.specs.Pattern.{lent, Pattern, pattern_of}
 use Rattle.foundation.specs.Square.{Square}
 use Rattle.foundation.specs.Reference.{largest, listed, whole, cut, steps_of, pivot_row, best, eliminated_right, updates_at, sound_update, sound_place, sound_row, sound_step, noPivot, notFinite, number_of, stopped, step, starting, Checked, substituted, solved_row, solved, ended, reference}
 use Rattle.foundation.specs.Table.{Case, case}

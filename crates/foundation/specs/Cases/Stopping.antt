@@ -1,5 +1,5 @@
 -- Where the reference stops: 13 and 14 in its steps. Below each sentence stand the rows of the square, each with its right side, as numbers.
-use Rattle.std.specs.Prelude.{List, [], ◌∷◌, ℕ}
+use Rattle.std.specs.Prelude.{List, [], ◌∷◌}
 use Rattle.foundation.specs.Reference.{largest, listed, whole, cut}
 use Rattle.foundation.specs.Table.{Case, case}
 use Rattle.foundation.specs.Cases.Reference.{two, solve}

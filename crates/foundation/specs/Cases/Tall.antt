@@ -4,7 +4,7 @@ use Rattle.foundation.specs.Answer.{Answer}
 use Rattle.foundation.specs.Pattern.{Lent, lent, pattern_of, pattern_fault}
 use Rattle.foundation.specs.Plan.{lower, upper, list, plan}
 use Rattle.foundation.specs.Reference.{Choice, largest, listed, Extent, whole, cut, Course, going, stopped, number_of, reference}
-use Rattle.foundation.specs.PlanCall.{SideStores, WorkSizes, LentPlan, planned, plan_answer, plan_leaves}
+use Rattle.foundation.specs.PlanCall.{WorkSizes, LentPlan, planned, plan_answer, plan_leaves}
 use Rattle.foundation.specs.RunCall.{Lending, Ran, value_at, right_at, ran, run_leaves}
 use Rattle.foundation.specs.Slots.{has_slot}
 use Rattle.foundation.specs.Table.{Case, case, told}

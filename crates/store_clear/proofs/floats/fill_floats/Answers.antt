@@ -1,5 +1,4 @@
 -- `fill_floats` meets its contract. The loop's invariant: the store is the value up to i and what it was behind them. Assumes nothing.
-use Prim.Native.Nat.{◌-◌}
 use borrow.Author.Rules.{rules}
 use Rattle.store_clear.proofs.Filling.{fill_more, fill_end}
 use Rattle.store_clear.proofs.floats.fill_floats.Goals as goal

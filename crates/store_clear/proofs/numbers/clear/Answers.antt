@@ -1,5 +1,4 @@
 -- `clear` meets its contract. The loop's invariant: the store is zeros up to i and what it was behind them. Assumes nothing.
-use Prim.Native.Nat.{◌-◌}
 use borrow.Author.Rules.{rules}
 use Rattle.store_clear.proofs.Filling.{fill_more, fill_end}
 use Rattle.store_clear.proofs.numbers.clear.Goals as goal

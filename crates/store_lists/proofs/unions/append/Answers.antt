@@ -1,7 +1,7 @@
 -- `append` meets its contract: the loop fills the store from the place on, and what is still to come is what is left of the list.
 use mathlib.Core.Path.{◌≡◌}
 use mathlib.Core.List.{List, ◌++◌}
-use Prim.Native.Nat.{ℕ, ◌+◌, ◌≤◌, ◌<◌, ◌-◌, ◌*◌, ◌^◌, zero-le}
+use Prim.Native.Nat.{ℕ, ◌+◌, ◌≤◌, ◌<◌, ◌*◌, ◌^◌, zero-le}
 use native.Mathlib.Nat.{add-zero, add_assoc, le_of_lt, le_antisymm}
 use native.Mathlib.Numerals.{add-one}
 use native.Mathlib.Omega.{arith}

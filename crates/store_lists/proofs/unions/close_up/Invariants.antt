@@ -1,6 +1,6 @@
 -- `close_up` meets its contract: the loop fills the store from the place on with what stands further on in it.
 use mathlib.Core.List.{◌++◌}
-use Prim.Native.Nat.{◌+◌, ◌-◌, ◌≤◌}
+use Prim.Native.Nat.{◌-◌, ◌≤◌}
 use lib.ListN.{length, take, drop}
 use Rattle.store_lists.specs.Filling.{Filling}
 use Rattle.store_lists.proofs.unions.close_up.Given as goal

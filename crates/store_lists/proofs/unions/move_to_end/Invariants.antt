@@ -1,5 +1,4 @@
 -- `move_to_end` meets its contract: the numbers are moved from the last to the first, and those that are not moved yet stand where they were.
-use Prim.Native.Nat.{◌-◌}
 use Rattle.store_lists.proofs.Merging.{Moving}
 use Rattle.store_lists.proofs.unions.move_to_end.Given as goal
 

@@ -1,5 +1,4 @@
 -- `place_of` meets its contract: the loop's invariant is `Halving`, its measure what is left between the two ends.
-use Prim.Native.Nat.{◌-◌}
 use native.Mathlib.Omega.{arith}
 use Rattle.store_search.proofs.Places.{halving_start, halving_up, halving_down, halving_end}
 use Rattle.store_search.proofs.finding.place_of.Goals as goal

@@ -1,5 +1,5 @@
 -- `search_behind` meets its contract: what is passed of the second list is among what is passed of the first.
-use Prim.Native.Nat.{◌+◌, ◌≤◌, ◌-◌}
+use Prim.Native.Nat.{◌+◌, ◌≤◌}
 use native.Mathlib.Nat.{le_refl, le-add_right}
 use native.Mathlib.Omega.{arith}
 use lib.ListN.{length}
@@ -21,22 +21,20 @@ pub loop-b-init : goal.loop-b-init
 loop-b-init c = (search rules, search rules, passed_none _ _)
 
 pub returns-then-last-x : goal.returns-then-last-x
-returns-then-last-x c =
-    (
-      c.loop-b.invariant.1,
-      passed_behind c.args.have.now c.args.more.now c.loop-b.a c.loop-b.b c.loop-b.invariant.2 (omega arith)
-          c.loop-b-test.true c.if-last-x.true,
-    )
+returns-then-last-x c = (
+  c.loop-b.invariant.1,
+  passed_behind c.args.have.now c.args.more.now c.loop-b.a c.loop-b.b c.loop-b.invariant.2 (omega arith)
+      c.loop-b-test.true c.if-last-x.true,
+)
 
 pub loop-b-preserved-then-have-a : goal.loop-b-preserved-then-have-a
-loop-b-preserved-then-have-a c =
-    (
-      search rules,
-      search rules,
-      passed_on c.args.have.now c.args.more.now c.loop-b.a c.loop-b.b c.loop-b.invariant.2 c.loop-b.a (le_refl _) (omega arith)
-          c.loop-b-test.true
-          c.if-have-a.true,
-    )
+loop-b-preserved-then-have-a c = (
+  search rules,
+  search rules,
+  passed_on c.args.have.now c.args.more.now c.loop-b.a c.loop-b.b c.loop-b.invariant.2 c.loop-b.a (le_refl _) (omega arith)
+      c.loop-b-test.true
+      c.if-have-a.true,
+)
 
 -- the place found, counted from the list's begin
 near : (c : After-place_of) → c.loop-b.a + c.place_of.result ≤ length c.args.have.now
