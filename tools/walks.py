@@ -506,7 +506,7 @@ def convert(folder, crate, path, table, made, source):
     abbrevs = []
     for i in sorted(used):
         new = table["places_by_name"][i]
-        abbrevs.append(([], "abbrev %s : Type 0\n%s = lts.%s%s reads.Pre reads.Post%s%s" % (new, new, fn.type_of(i), claims, handed, given)))
+        abbrevs.append(([], "abbrev %s : Type 0\n%s = lts.%s%s reads.Pre reads.Post%s%s" % (new, new, fn.type_of(i), claims, given, handed)))
     target = os.path.join(folder, "proofs", path)
     if invariants:
         body = "\n\n".join("\n".join(c + [t]) for c, t in invariants)

@@ -14,10 +14,10 @@ use Rattle.plan_gather.proofs.rows.chain_row.Reads as reads
 use Rattle.plan_gather.proofs.rows.chain_row.Tie as tie
 
 abbrev Start : Type 0
-Start = lts.Start tie.the-claims reads.Pre reads.Post
+Start = lts.Start tie.the-claims reads.Pre reads.Post tie.handed_clauses
 
 abbrev Else-starts-i : Type 0
-Else-starts-i = lts.Else1 tie.the-claims reads.Pre reads.Post
+Else-starts-i = lts.Else1 tie.the-claims reads.Pre reads.Post tie.handed_clauses
 
 -- row i has a start, and one behind it
 inside : (c : Start) → c.args.i < length c.args.starts.now

@@ -9,29 +9,20 @@ use Rattle.foundation.specs.Pattern.{lent}
 use Rattle.plan_gather.specs.Ready.{lent_by}
 use Rattle.plan_gather.proofs.Chaining.{starts_size, rows_start, rows_end}
 use Rattle.plan_gather.proofs.rows.chain_rows.Goals as goal
-use Rattle.plan_gather.proofs.rows.chain_rows.Lts as lts
-use Rattle.plan_gather.proofs.rows.chain_rows.Reads as reads
-use Rattle.plan_gather.proofs.rows.chain_rows.Tie as tie
-
-abbrev Start : Type 0
-Start = lts.Start tie.the-claims reads.Pre reads.Post tie.handed_clauses goal.the-invariant-loop-i goal.the-decreases-loop-i
-
--- there is a start for each row, and one behind
-size : (c : Start) → length c.args.starts.now ≡ suc (length c.args.starts.now - 1)
-unfolding lent_by lent
-size c = starts_size _ c.requires.ready
 
 pub overflow_sub-i : goal.overflow_sub-i
-overflow_sub-i c = omega (arith, size c.before.before.before.before.before.before.before.before.before.before.before.before)
+unfolding lent_by lent
+overflow_sub-i c = omega (arith, starts_size _ c.requires.ready)
 
 pub loop-i-init : goal.loop-i-init
 unfolding lent_by lent
 loop-i-init c =
     let zero = c.clear_chains.ensures in
-    let pre = c.requires in (
+    let pre = c.requires in
+    let size = starts_size _ pre.ready in (
       le_refl _,
-      pre.0,
-      rows_start _ pre.0 _ _ (zero.0 ∙ ap (λ (m : ℕ). replicate m 0) (pre.1.0 ∙ size c.before.before.before.before.before.before.before.before.before.before.before.before)) (zero.1 ∙ ap (λ (m : ℕ). replicate m 0) (pre.1.1 ∙ size c.before.before.before.before.before.before.before.before.before.before.before.before)),
+      pre.ready,
+      rows_start _ pre.ready _ _ (zero.0 ∙ ap (λ (m : ℕ). replicate m 0) (pre.heads_len.0 ∙ size)) (zero.1 ∙ ap (λ (m : ℕ). replicate m 0) (pre.heads_len.1 ∙ size)),
     )
 
 pub chain_row-requires : goal.chain_row-requires
