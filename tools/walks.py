@@ -123,6 +123,8 @@ class Function:
         self.crate, self.path, self.t = crate, path, table
         self.module = path.replace("/", ".")
         self.said = []
+        self.answers = {}  # an answer that others may cite: its new name, its place, whether that is wrapped
+        self.helpers = {}  # a helper lemma: the place that it speaks of
         self.place = {}  # by plain old name: its index
         for i, p in enumerate(table["places"]):
             self.place[plain(p[0])] = i
@@ -194,22 +196,25 @@ class Function:
         seen = at
         while seen is not None:
             name, _, (old, new), called, renamed = self.t["places"][seen]
-            if plain(old) in (f, plain(re.sub("-lem$", "", f))):
+            if plain(old).lower() in (f.lower(), re.sub("-lem$", "", f).lower()):
                 return self.step(seen, new, called, dict((plain(a), b) for a, b in renamed), rest)
             seen = self.parent(seen)
         self.said.append("no field %s at %s" % (".".join(chain), self.t["places_by_name"][at] if at is not None else "?"))
         return chain
 
     def clause(self, names, rest):
-        """`.0` of several clauses is the first one's name."""
-        if len(names) < 2 or not rest:
+        """`.0`, `.1.0`, `.1.1` of three clauses are now their names."""
+        if len(names) < 2 or not rest or None in names:
             return rest
-        k, n = 0, 0
-        if rest[0].isdigit():
-            n = int(rest[0])
-            if n < len(names):
-                return [names[n]] + rest[1:]
-        return rest
+        k = 0
+        while k < len(names) - 1:
+            if not rest or rest[0] not in ("0", "1"):
+                return ["1"] * k + rest
+            way, rest = rest[0], rest[1:]
+            if way == "0":
+                return [names[k]] + rest
+            k += 1
+        return [names[k]] + rest
 
     def step(self, place, new, called, renamed, rest):
         out = [new]
@@ -251,10 +256,7 @@ class Function:
             def put(m):
                 k = m.group(1).count(".before")
                 to = self.up(place, k)
-                if to is None:
-                    self.said.append("no way back: %s" % m.group(0))
-                    return m.group(0)
-                return "⟪%d⟫" % to
+                return "⟪%d⟫" % (self.place["Start"] if to is None else to)
             return re.sub(pattern, put, text)
 
         if root:
@@ -263,26 +265,46 @@ class Function:
         while True:
             old = text
             text = re.sub(r"\((⟪\d+⟫)\)", r"\1", text)
-            text = re.sub(r"(⟪(\d+)⟫)((?:\.before)+)(?![\w'-])", lambda m: "⟪%s⟫" % self.up(int(m.group(2)), m.group(3).count(".before")), text)
+            text = re.sub(r"(⟪(\d+)⟫)((?:\.before)+)(?![\w'-])", lambda m: "⟪%s⟫" % (self.up(int(m.group(2)), m.group(3).count(".before")) or self.place["Start"]), text)
             text = re.sub(r"(?<![\w.'-])(%s) ⟪\d+⟫(?!\.)" % way, lambda m: "⟪%d⟫" % paths[m.group(1)], text)
             m = re.search(r"\blet (%s) = ⟪(\d+)⟫ in(?:\n *| )" % NAME, text)
             if m:
                 text = text[: m.start()] + places_in(text[m.end():], m.group(1), int(m.group(2)))
             if text == old:
                 break
+        # `let a = c.append in`: a step under a name of its own
+        steps = {}
+        for m in re.finditer(r"\blet (%s) = ⟪\d+⟫\.(%s) in(?=\s)" % (NAME, NAME), text):
+            steps[m.group(1)] = m.group(2)
+        for name, step in steps.items():
+
+            def put_step(m):
+                new = self.fields(at, [step] + m.group(1)[1:].split("."))
+                first = self.fields(at, [step])
+                return ".".join([name] + new[len(first):]) if new[: len(first)] == first else ".".join([root] + new)
+            text = re.sub(r"(?<![\w.'-])%s((?:\.[\w'«»₀-₉]+(?:-[\w'₀-₉]+)*)+)" % re.escape(name), put_step, text)
         # `⊎_elim (λ x. ..) (λ y. ..) ⟪n⟫.if1.branch`
         text = self.branches(text)
 
         def put(m):
-            place, chain = int(m.group(1)), m.group(2)
+            place, chain = int(m.group(2)), m.group(3)
             if chain:
-                return "%s.%s" % (root, ".".join(self.fields(place, chain[1:].split("."))))
+                return "%s%s.%s" % (m.group(1) or "", root, ".".join(self.fields(at, chain[1:].split("."))))
+            wanted = (m.group(1) or "").strip()
+            if wanted in self.answers:
+                new, there, boxed = self.answers[wanted]
+                n = self.steps(at, there)
+                if boxed and there != at:
+                    self.said.append("an answer cites %s from elsewhere" % new)
+                return new + " " + root + ("" if there == at else ".before" * ((n or 0) + (1 if wrapped else 0)))
+            place = self.helpers.get(wanted, place)
             n = self.steps(at, place)
             if n is None:
                 self.said.append("no steps to %s" % self.t["places_by_name"][place])
                 n = 0
-            return root + ".before" * (n + (1 if wrapped else 0))
-        text = re.sub(r"⟪(\d+)⟫((?:\.[\w'«»₀-₉]+(?:-[\w'₀-₉]+)*)*)", put, text)
+            way = root + ".before" * (n + (1 if wrapped else 0))
+            return (m.group(1) or "") + way
+        text = re.sub(r"((?<![\w.'-])%s )?⟪(\d+)⟫((?:\.[\w'«»₀-₉]+(?:-[\w'₀-₉]+)*)*)" % NAME, put, text)
         # a step that has a name of its own in a `let` keeps its old fields there
         return re.sub(r"(?<=[\w)])\.inv(?![\w'-])", ".invariant", text)
 
@@ -373,6 +395,8 @@ class Function:
             cut = i + 2
         lead, tail = body[:cut], body[cut:]
         parts = parts_of(tail)
+        while parts and 1 < len(parts) < len(names) and parts_of(parts[-1]):
+            parts = parts[:-1] + parts_of(parts[-1])
         if not parts or len(parts) != len(names):
             self.said.append("%s has several clauses: %s" % (what, ", ".join(names)))
             return body
@@ -385,7 +409,7 @@ def convert(folder, crate, path, table, made, source):
     title = [l for l in head if l.startswith("--")]
     own = "Rattle.%s.proofs.%s." % (crate, fn.module)
     uses = [l for l in head if l.startswith(("use ", "pub use ")) and not l.startswith("use " + own)]
-    type_pattern = r"tie\.((?!Need-)[A-Z][\w'₀-₉-]*)(?:\s+(?:invariant|decreases)-loop[\w-]*)*"
+    type_pattern = r"tie\.((?!Need-)[A-Z][\w'₀-₉-]*)(?:\s+(?:invariant|decreases)-[\w-]+)*"
     paths = {}
     for comment, ls in decls:
         text = "\n".join(ls)
@@ -394,6 +418,10 @@ def convert(folder, crate, path, table, made, source):
             to = fn.named(m.group(3))
             if to is not None:
                 paths[m.group(1)] = to
+    for comment, ls in decls:
+        m = re.match(r"(?:abbrev )?(%s)\s*:\s*(?:\(%s : )?%s" % (NAME, NAME, type_pattern), "\n".join(ls))
+        if m and m.group(1) not in paths and fn.place.get(plain(m.group(2))) is not None:
+            fn.helpers[m.group(1)] = fn.place[plain(m.group(2))]
     invariants, answers, used = [], [], set()
     goals = []
     for comment, ls in decls:
@@ -407,7 +435,7 @@ def convert(folder, crate, path, table, made, source):
         name = m.group(3)
         if name in paths:
             continue
-        loop = re.match(r"(invariant|decreases)-(loop[\w'-]*)$", name)
+        loop = re.match(r"(invariant|decreases)-([\w'-]+)$", name)
         if m.group(1) and loop and re.match(r"tie\.(invariant|decreases)-", m.group(4)):
             kind, which = loop.groups()
             entry = [(n, v, c) for ((o, n), v), c in zip(table["loops"], table["changed"]) if plain(o) == plain(which)]
@@ -429,16 +457,21 @@ def convert(folder, crate, path, table, made, source):
         need = re.match(r"tie\.Need-(%s)" % NAME, m.group(4))
         if need:
             b = re.search(r"\n((?:unfolding [^\n]*\n(?:    [^\n]*\n)*)?)%s((?:[ \n]+[\w'₀-₉()_, ]+?)*)\s*=(?=\s)\s*([\s\S]*)" % re.escape(name), text)
-            goals.append([comment, plain(need.group(1)), b.groups() if b else None, text])
+            goals.append([comment, plain(need.group(1)), b.groups() if b else None, text, name])
             answers.append(("goal", len(goals) - 1))
             continue
         answers.append(("helper", comment, text))
     listed = len(goals) == len(fn.goals)
     byname = {plain(o): k for k, (o, n) in enumerate(fn.goals)}
+    if listed:
+        for k, g in enumerate(goals):
+            at = fn.named(table["asked_at"][k][0])
+            fn.answers[g[4]] = (fn.goals[k][1], at, bool(table["typed"][at]))
+    cited = {n for n in fn.answers if re.search(r"[(= ,]%s \w" % re.escape(n), "\n".join(g[2][2] for g in goals if g[2]) + "\n".join(a[2] for a in answers if a[0] == "helper"))}
     out = []
     for a in answers:
         if a[0] == "goal":
-            comment, old, body, text = goals[a[1]]
+            comment, old, body, text, declared = goals[a[1]]
             k = a[1] if listed else None
             if k is None:
                 for guess in (old, re.sub(r"^(overflow|slice-bounds)-", "", old), old.replace("slice-bounds-", "part-"), old.replace("holds", "init")):
@@ -454,7 +487,7 @@ def convert(folder, crate, path, table, made, source):
                 fn.said.append("not read: " + text[:80].replace("\n", " "))
                 continue
             unfolding, args, value = body
-            if TRIVIAL.match(re.sub(r"\s+", " ", value.strip())) and not unfolding:
+            if TRIVIAL.match(re.sub(r"\s+", " ", value.strip())) and not unfolding and declared not in cited:
                 continue
             if re.match(r"shape_of-|long-", new):
                 continue
