@@ -272,6 +272,16 @@ class Function:
                 text = text[: m.start()] + places_in(text[m.end():], m.group(1), int(m.group(2)))
             if text == old:
                 break
+        # `let (j, at) = c.requires in` of several clauses
+        names = self.own[0]
+
+        def put_lets(m):
+            bound = [x.strip() for x in m.group(1).split(",")]
+            if len(names) < 2 or len(bound) != len(names):
+                return m.group(0)
+            return " in\n    ".join("let %s = %s.%s" % (x, m.group(2), n) for x, n in zip(bound, names)) + " in"
+        text = re.sub(r"\blet \(([\w', -]+)\) = (⟪\d+⟫\.(?:requires|pre)) in(?=\s)", put_lets, text)
+        text = re.sub(r"(⟪\d+⟫)\.(?:requires|pre)\.(%s)(?= in)" % "|".join(map(re.escape, [n for n in names if n] or ["(?!)"])), r"\1.requires.\2", text)
         # `let a = c.append in`: a step under a name of its own
         steps = {}
         for m in re.finditer(r"\blet (%s) = ⟪\d+⟫\.(%s) in(?=\s)" % (NAME, NAME), text):
@@ -463,21 +473,21 @@ def convert(folder, crate, path, table, made, source):
         answers.append(("helper", comment, text))
     listed = len(goals) == len(fn.goals)
     byname = {plain(o): k for k, (o, n) in enumerate(fn.goals)}
-    if listed:
-        for k, g in enumerate(goals):
-            at = fn.named(table["asked_at"][k][0])
-            fn.answers[g[4]] = (fn.goals[k][1], at, bool(table["typed"][at]))
+    which = []
+    for at, g in enumerate(goals):
+        old = g[1]
+        guesses = (old, re.sub(r"^(overflow|slice-bounds)-", "", old), old.replace("slice-bounds-", "part-"), old.replace("holds", "init"))
+        which.append(at if listed else next((byname[x] for x in guesses if x in byname), None))
+        if which[-1] is not None:
+            k = which[-1]
+            place = fn.named(table["asked_at"][k][0])
+            fn.answers[g[4]] = (fn.goals[k][1], place, bool(table["typed"][place]))
     cited = {n for n in fn.answers if re.search(r"[(= ,]%s \w" % re.escape(n), "\n".join(g[2][2] for g in goals if g[2]) + "\n".join(a[2] for a in answers if a[0] == "helper"))}
     out = []
     for a in answers:
         if a[0] == "goal":
             comment, old, body, text, declared = goals[a[1]]
-            k = a[1] if listed else None
-            if k is None:
-                for guess in (old, re.sub(r"^(overflow|slice-bounds)-", "", old), old.replace("slice-bounds-", "part-"), old.replace("holds", "init")):
-                    if guess in byname:
-                        k = byname[guess]
-                        break
+            k = which[a[1]]
             if k is None:
                 if not re.match(r"slice-aggregate|enum|known|same-length", old):
                     fn.said.append("no goal for %s" % old)

@@ -3,18 +3,15 @@ use Rattle.lists.specs.Functions.{keep}
 use Rattle.foundation.specs.Plan.{so_far, initialized, after_initialization}
 use Rattle.plan_gather.specs.Gathering.{omit}
 use Rattle.plan_gather.proofs.Joining.{grown_none}
-use Rattle.plan_lists.proofs.lying.begin_lists.Statement.{statement}
-use Rattle.plan_lists.proofs.lying.begin_lists.Tie as tie
+use Rattle.plan_lists.proofs.lying.begin_lists.Goals as goal
 
-returns : tie.Need-returns
+pub returns : goal.returns
 unfolding omit keep so_far initialized after_initialization
-returns c = λ p k row lowers uppers l u read. record {
+returns c =
+    λ p k row lowers uppers l u read. record {
   lower_size = l;
   upper_size = u;
   lower_lies = grown_none p.height lowers l;
   upper_lies = grown_none p.height uppers u;
   counted = read;
 }
-
-pub begin-lists-spec : {M : Type 1} → statement M
-begin-lists-spec = tie.close (tie.spec returns)
