@@ -276,12 +276,13 @@ class Function:
         names = self.own[0]
 
         def put_lets(m):
-            bound = [x.strip() for x in m.group(1).split(",")]
-            if len(names) < 2 or len(bound) != len(names):
+            bound = parts_of(m.group(1))
+            while bound and len(bound) < len(names) and parts_of(bound[-1]):
+                bound = bound[:-1] + parts_of(bound[-1])
+            if len(names) < 2 or not bound or len(bound) != len(names):
                 return m.group(0)
-            return " in\n    ".join("let %s = %s.%s" % (x, m.group(2), n) for x, n in zip(bound, names)) + " in"
-        text = re.sub(r"\blet \(([\w', -]+)\) = (⟪\d+⟫\.(?:requires|pre)) in(?=\s)", put_lets, text)
-        text = re.sub(r"(⟪\d+⟫)\.(?:requires|pre)\.(%s)(?= in)" % "|".join(map(re.escape, [n for n in names if n] or ["(?!)"])), r"\1.requires.\2", text)
+            return " in\n    ".join("let %s = %s.requires.%s" % (x, m.group(2), n) for x, n in zip(bound, names)) + " in"
+        text = re.sub(r"\blet (\([\w'(), -]+\)) = (⟪\d+⟫)\.(?:requires|pre) in(?=\s)", put_lets, text)
         # `let a = c.append in`: a step under a name of its own
         steps = {}
         for m in re.finditer(r"\blet (%s) = ⟪\d+⟫\.(%s) in(?=\s)" % (NAME, NAME), text):
@@ -407,6 +408,13 @@ class Function:
         parts = parts_of(tail)
         while parts and 1 < len(parts) < len(names) and parts_of(parts[-1]):
             parts = parts[:-1] + parts_of(parts[-1])
+        whole = re.match(r"\s*(\w+\.requires)\s*$", tail)
+        if whole and len(self.own[0]) == len(names):
+            parts = ["%s.%s" % (whole.group(1), n) for n in self.own[0]]
+        elif not parts and re.match(r"\s*[A-Za-z][\w'-]*(?: |$)", tail) and not re.match(r"\s*(?:record|search|omega|grind|simp|rw|cc|elim|let|subst)\b", tail):
+            ways = [".1" * i + ("" if i == len(names) - 1 else ".0") for i in range(len(names))]
+            lead = lead + (" " if lead and not lead.endswith((" ", "\n")) else "") + "let given = %s in" % tail.strip()
+            parts = ["given" + w for w in ways]
         if not parts or len(parts) != len(names):
             self.said.append("%s has several clauses: %s" % (what, ", ".join(names)))
             return body
