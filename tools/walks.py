@@ -162,6 +162,16 @@ class Function:
         i = self.place.get(plain(name))
         if i is None:
             self.said.append("no place %s" % name)
+        return self.whole(i)
+
+    def whole(self, i):
+        """Steps into an arm of a `match` are one place now: the last of them."""
+        arm = self.t["arms"][i] if i is not None else None
+        if not arm:
+            return i
+        for j, other in enumerate(self.t["arms"]):
+            if other and other[0] == arm[0] and other[1] > self.t["arms"][i][1] and self.up(j, other[1] - arm[1]) == i:
+                i = j
         return i
 
     def type_of(self, i):
@@ -308,7 +318,7 @@ class Function:
                 if boxed and there != at:
                     self.said.append("an answer cites %s from elsewhere" % new)
                 return new + " " + root + ("" if there == at else ".before" * ((n or 0) + (1 if wrapped else 0)))
-            place = self.helpers.get(wanted, place)
+            place = self.whole(self.helpers.get(wanted, place))
             n = self.steps(at, place)
             if n is None:
                 self.said.append("no steps to %s" % self.t["places_by_name"][place])
@@ -439,7 +449,7 @@ def convert(folder, crate, path, table, made, source):
     for comment, ls in decls:
         m = re.match(r"(?:abbrev )?(%s)\s*:\s*(?:\(%s : )?%s" % (NAME, NAME, type_pattern), "\n".join(ls))
         if m and m.group(1) not in paths and fn.place.get(plain(m.group(2))) is not None:
-            fn.helpers[m.group(1)] = fn.place[plain(m.group(2))]
+            fn.helpers[m.group(1)] = fn.whole(fn.place[plain(m.group(2))])
     invariants, answers, used = [], [], set()
     goals = []
     for comment, ls in decls:

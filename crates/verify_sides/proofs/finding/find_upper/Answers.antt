@@ -20,8 +20,8 @@ use Rattle.verify_sides.proofs.finding.find_upper.Lts as lts
 use Rattle.verify_sides.proofs.finding.find_upper.Reads as reads
 use Rattle.verify_sides.proofs.finding.find_upper.Tie as tie
 
-abbrev In-Behind-2 : Type 0
-In-Behind-2 = lts.Past-After-lies2 tie.the-claims reads.Pre reads.Post
+abbrev In-Behind : Type 0
+In-Behind = lts.Past-After-known_told2 tie.the-claims reads.Pre reads.Post
 
 abbrev In-Row : Type 0
 In-Row = lts.Past-After-enum_told tie.the-claims reads.Pre reads.Post
@@ -42,7 +42,7 @@ returns-else-not-sole_followed c =
     sole-agrees at (whole-sole whole c.in-Sole.is) c.sole_followed.ensures (not-false _ c.if-not-sole_followed.false-raw)
 
 behind-read :
-    (c : In-Behind-2)
+    (c : In-Behind)
     → RestRead c.args.n c.args.starts.now c.args.columns.now c.args.k
     c.in-Behind.shared c.in-Behind.from c.args.row
 behind-read c =
@@ -56,47 +56,47 @@ pub offset_bounds-starts-row : goal.offset_bounds-starts-row
 offset_bounds-starts-row c = before-fits (behind-read c.before).high c.well_formed.1.1.1.1.0.1
 
 pub bounds-starts-row : goal.bounds-starts-row
-bounds-starts-row c = before_below (behind-read c.before).high
+bounds-starts-row c = before_below (behind-read c.before.before).high
 
 -- by arithmetic here and below, whatever is added: code that adds another number is refused for the columns that it looks for
 pub overflow_add-first : goal.overflow_add-first
 overflow_add-first c =
-    let read = behind-read c.before in
+    let read = behind-read c.before.before in
     omega (arith, read)
 
 pub offset_bounds-starts-row-in-Behind : goal.offset_bounds-starts-row-in-Behind
-offset_bounds-starts-row-in-Behind c = scaled_Fits _ _ _ (behind-read c.before).high c.well_formed.1.1.1.1.0.1
+offset_bounds-starts-row-in-Behind c = scaled_Fits _ _ _ (behind-read c.before.before).high c.well_formed.1.1.1.1.0.1
 
 pub bounds-starts-row-in-Behind : goal.bounds-starts-row-in-Behind
-bounds-starts-row-in-Behind c = (behind-read c.before).high
+bounds-starts-row-in-Behind c = (behind-read c.before.before.before).high
 
 pub offset_bounds-columns-first : goal.offset_bounds-columns-first
 offset_bounds-columns-first c =
-    let read = behind-read c.before in
+    let read = behind-read c.before.before.before in
     omega (arith, read)
 
 pub slice_bounds-verify_rest-count : goal.slice_bounds-verify_rest-count
 slice_bounds-verify_rest-count c =
-    let read = behind-read c.before in
+    let read = behind-read c.before.before.before in
     omega (arith, read)
 
 pub slice_bounds-verify_rest-start : goal.slice_bounds-verify_rest-start
 slice_bounds-verify_rest-start c =
-    let read = behind-read c.before in
+    let read = behind-read c.before.before.before in
     omega (arith, read)
 
 pub slice_bounds-verify_rest-end : goal.slice_bounds-verify_rest-end
-slice_bounds-verify_rest-end c = (behind-read c.before).inside
+slice_bounds-verify_rest-end c = (behind-read c.before.before.before).inside
 
 pub verify_rest-requires : goal.verify_rest-requires
 verify_rest-requires c =
     let (at, whole) = c.requires in
-    rest_writable at (behind-not-sole (whole-behind whole c.in-Behind.is)) (behind-read c.before).found
+    rest_writable at (behind-not-sole (whole-behind whole c.in-Behind.is)) (behind-read c.before.before.before.before).found
 
 pub returns-in-Behind : goal.returns-in-Behind
 returns-in-Behind c =
     let (at, whole) = c.requires in
-    rest_verified at (behind-not-sole (whole-behind whole c.in-Behind.is)) (behind-read c.before).found c.verify_rest.result
+    rest_verified at (behind-not-sole (whole-behind whole c.in-Behind.is)) (behind-read c.before.before.before.before.before).found c.verify_rest.result
     c.verify_rest.ensures
 
 read :
