@@ -86,7 +86,6 @@ verify_list-requires-in-Grown c =
 
 pub returns-in-Grown : goal.returns-in-Grown
 returns-in-Grown c =
-    let lies3 = c.lies-in-Grown-1 in
     λ p at whole.
     c.verify_list-in-Grown.ensures _ _
     (new-grown at (grown-not-sole whole c.in-Grown.is) (whole-grown whole c.in-Grown.is))
