@@ -1,4 +1,6 @@
 // The draws of a test load: document 02, Ticket 6. The state is a number that each draw moves on; it is handed on by value.
+#![tactic(auto)]
+
 ghost use Rattle.std.specs.Prelude.{◌≡◌, ◌%◌, ◌<◌, ◌==◌};
 ghost use Rattle.foundation.specs.Draw.{stepped, mixed, drawn_value};
 ghost use Rattle.foundation.specs.Load.{present_by, asked_state};

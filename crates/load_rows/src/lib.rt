@@ -1,4 +1,6 @@
 // The rows of a test load, laid into the stores one behind the other: document 02, Ticket 6.
+#![tactic(auto)]
+
 ghost use Rattle.std.specs.Prelude.{◌≡◌, ◌<◌, ◌≤◌, length};
 ghost use Rattle.foundation.specs.Load.{row_up_to, load_of};
 ghost use Rattle.load_rows.specs.Laid.{RowLaid, LoadLaid, Blank};

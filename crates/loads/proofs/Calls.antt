@@ -1,13 +1,11 @@
 -- A call from its parts: a verdict that refuses, a load that passes the stores, and one that was laid.
-use mathlib.Core.List.{List, [], ◌∷◌}
+use mathlib.Core.List.{List}
 use mathlib.Core.Path.{◌≡◌, refl, sym, ap, ◌∙◌}
 use Prim.Native.Nat.{ℕ, ◌≤◌, ◌<◌}
 use native.Mathlib.Omega.{arith}
 use lib.Dec.{leb}
 use lib.Ieee.{Float}
 use lib.ListN.{length, replicate}
-use types.Run.{OneOf, miss}
-use denote.Enum.Declared.{tag_of}
 use borrow.Author.Tests.{leb-true, leb-false}
 use Rattle.lists.specs.Functions.{padded}
 use Rattle.lists.proofs.Members.{by_test}
@@ -20,7 +18,6 @@ use Rattle.foundation.proofs.Loads.{leaves_zeros}
 use Rattle.answers.specs.Loads.{load_answer_of}
 use Rattle.answers.specs.declared.LoadAnswer.{LoadAnswer}
 use Rattle.answers.specs.declared.LoadAnswer.TheVariants.{Entries, Limits, NoDivisor, Stores}
-use Rattle.answers.specs.contracts.LoadAnswer as Declared
 use Rattle.load_rows.specs.Laid.{LoadIn, LoadLaid, Blank}
 
 -- ---- stores
@@ -62,10 +59,9 @@ module _ (seed n d : ℕ) (w : LoadSizes) where
   refused-call a number is e zeros = (is ∙ sym (answer-refused seed n d w e), zeros ∙ sym (leaves_zeros seed n d w e))
 
   -- a verdict that is no count
-  pub refused_verdict : (a : LoadAnswer) {s : LoadStores} → OneOf (1 ∷ 2 ∷ 3 ∷ []) (tag_of Declared.the_type a) → load_answer_of a ≡ judged_load n d w → s ≡ zero_stores w
-      → Promised a s
+  pub refused_verdict : (a : LoadAnswer) {s : LoadStores} → ((k : ℕ) → a ≡ Entries k → ⊥) → load_answer_of a ≡ judged_load n d w → s ≡ zero_stores w → Promised a s
   unfolding load_answer_of
-  refused_verdict (Entries k) other e zeros = absurd (miss (1 ∷ 2 ∷ 3 ∷ []) 0 tt other)
+  refused_verdict (Entries k) other e zeros = absurd (other k refl)
   refused_verdict Limits other e zeros = refused-call Limits 1 refl (refused-before seed n d w 1 (sym e)) zeros
   refused_verdict NoDivisor other e zeros = refused-call NoDivisor 23 refl (refused-before seed n d w 23 (sym e)) zeros
   refused_verdict Stores other e zeros = refused-call Stores 6 refl (refused-before seed n d w 6 (sym e)) zeros

@@ -1,4 +1,6 @@
 // Test loads that can be named: document 02, Ticket 6. A load is the pattern, values and right side that a seed, n and d stand for.
+#![tactic(auto)]
+
 ghost use Rattle.std.specs.Prelude.{◌≡◌};
 ghost use Rattle.foundation.specs.LoadCall.{load_answer, load_stores, load_sizes_of, load_leaves};
 ghost use Rattle.answers.specs.Loads.{load_answer_of};

@@ -4,7 +4,7 @@ use mathlib.Core.List.{List, [], ◌∷◌, ◌++◌}
 use Prim.Native.Nat.{ℕ, zero, suc, ◌+◌, ◌-◌, ◌≤◌, ◌<◌}
 use native.Mathlib.Omega.{arith}
 use lib.Dec.{eqb}
-use lib.ListN.{length, get_or, take, set, replicate, length-append, length-set, length-replicate}
+use lib.ListN.{length, get_or, set, replicate, length-append, length-set, length-replicate}
 use lib.Seq.{length-take-le, get_or-take, take_all, ext_get_or, get_or-set_same, get_or-set_other}
 use borrow.Author.Tests.{eqb-true, eqb-false}
 use Rattle.lists.specs.Functions.{padded}
@@ -25,13 +25,6 @@ cut-or-padded-length room xs = length-take-le room (xs ++ replicate (room - leng
 cut-or-padded_reads : (room : ℕ) (xs : List ℕ) (i : ℕ) → i < room → get_or (cut_or_padded room xs) i 0 ≡ get_or xs i 0
 unfolding cut_or_padded padded
 cut-or-padded_reads room xs i h = get_or-take room (xs ++ replicate (room - length xs) 0) i 0 h ∙ zeros_behind (room - length xs) xs i
-
--- behind the first `count` nothing is left
-pub take_behind : (count : ℕ) (xs : List ℕ) (t : ℕ) → count ≤ t → get_or (take count xs) t 0 ≡ 0
-take_behind zero xs t h = refl
-take_behind (suc count) [] t h = refl
-take_behind (suc count) (x ∷ xs) zero h = absurd (omega arith)
-take_behind (suc count) (x ∷ xs) (suc t) h = take_behind count xs t (omega arith)
 
 -- a list that fits stands whole, with zeros behind it
 pub cut-or-padded-whole : (room : ℕ) (xs : List ℕ) → length xs ≤ room → cut_or_padded room xs ≡ padded 0 room xs

@@ -2,6 +2,8 @@
 // numbers that such a caller gives, as the types that the calls take.
 //
 // Every function takes any numbers and stores of any length.
+#![tactic(auto)]
+
 mod counters;
 mod counting;
 mod laying;

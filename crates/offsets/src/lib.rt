@@ -1,4 +1,6 @@
 // Offsets in degrees, minutes and seconds, as `+012 34 56.789`: read as whole milliarcseconds, written from an f64 of milliarcseconds. Document 02, Ticket 11.
+#![tactic(auto)]
+
 ghost use Rattle.std.specs.Prelude.{◌≡◌, length};
 ghost use Rattle.foundation.specs.OffsetCall.{read_offset, write_offset, write_leaves};
 ghost use Rattle.answers.specs.Offsets.{read_answer_of, write_answer_of};

@@ -2,6 +2,8 @@
 // member.
 //
 // `add` alone touches the record: it reads it, has `tally_with` decide by value, and stores what comes back.
+#![tactic(auto)]
+
 ghost use Rattle.std.specs.Prelude.{◌≡◌};
 ghost use Rattle.foundation.specs.Tally.{is_member, empty_tally, counter_answer, tally_answer, tally_after};
 ghost use Rattle.tally.specs.Calls.{kept_sum, tally_answer_of};

@@ -4,4 +4,4 @@ use Rattle.load_draw.proofs.step.Goals as goal
 
 pub returns : goal.returns
 unfolding stepped
-returns c = c.wrapping_add_u32.ensures
+returns c = c.wrapping_add_u32.ensures.value
