@@ -1,7 +1,7 @@
 -- `reduce_gathered` meets its contract: the loop is that of `reduce_stretch`, over what the subscripts find.
 use mathlib.Core.Logic.{⊎_elim}
 use mathlib.Core.Path.{◌≡◌, sym, ◌∙◌}
-use Prim.Native.Nat.{◌<◌, ◌-◌}
+use Prim.Native.Nat.{◌<◌}
 use native.Mathlib.Nat.{le_trans, le_of_eq}
 use lib.Ieee.{nan, of_bits}
 use lib.ListN.{length, get_or, length-set}

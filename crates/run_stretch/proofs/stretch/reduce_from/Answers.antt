@@ -31,7 +31,7 @@ pub overflow_sub-e : goal.overflow_sub-e
 overflow_sub-e c = (own-last c.before).low
 
 pub offset_bounds-own-e : goal.offset_bounds-own-e
-offset_bounds-own-e c = (own-last c.before).ranges
+offset_bounds-own-e c = (own-last c.before).fits
 
 pub bounds-own-e : goal.bounds-own-e
 bounds-own-e c = (own-last c.before.before).inside
@@ -91,12 +91,11 @@ pub slice_bounds-reduce_gathered-end-2 : goal.slice_bounds-reduce_gathered-end-2
 slice_bounds-reduce_gathered-end-2 c = le_refl _
 
 pub reduce_gathered-requires : goal.reduce_gathered-requires
-reduce_gathered-requires c =
-    (
-      rest_size c.args.y.now c.args.own.now c.args.o c.requires.0,
-      c.requires.1,
-      below_part _ c.args.o (length c.args.own.now - c.args.o) _ c.requires.2.room,
-    )
+reduce_gathered-requires c = (
+  rest_size c.args.y.now c.args.own.now c.args.o c.requires.0,
+  c.requires.1,
+  below_part _ c.args.o (length c.args.own.now - c.args.o) _ c.requires.2.room,
+)
 
 pub returns : goal.returns
 returns c =

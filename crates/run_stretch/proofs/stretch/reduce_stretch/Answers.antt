@@ -1,7 +1,6 @@
 -- `reduce_stretch` meets its contract: the loop's invariant is `Reducing`.
 use mathlib.Core.Path.{◌∙◌}
 use mathlib.Core.Logic.{⊎_elim}
-use Prim.Native.Nat.{◌-◌}
 use lib.Ieee.{of_bits}
 use borrow.Author.Rules.{rules}
 use Rattle.foundation.proofs.FloatSteps.{reduced-zero}
