@@ -80,23 +80,23 @@ pub slice_bounds-solved_row-end-in-loop-i : goal.slice_bounds-solved_row-end-in-
 slice_bounds-solved_row-end-in-loop-i c = (row c.before.before.before).closes
 
 pub offset_bounds-d-above : goal.offset_bounds-d-above
-offset_bounds-d-above c = (own c.before.before.before.before.before.before).fits
+offset_bounds-d-above c = (own c.before.before.before.before.before).fits
 
 pub bounds-d-above : goal.bounds-d-above
 bounds-d-above c =
-    before_size (some c.before.before.before.before.before.before.before) c.loop.invariant.0 (diagonal_size _ _ _ _ _ c.requires)
+    before_size (some c.before.before.before.before.before.before) c.loop-i.invariant.0 (diagonal_size _ _ _ _ _ c.requires)
 
 pub solved_row-value-requires : goal.solved_row-value-requires
 solved_row-value-requires c =
-    row_asks _ _ _ _ _ c.requires _ (some c.before.before.before.before.before.before.before) c.loop.invariant.0 _ _ _ _ c.list-place.ensures _
-    (le_of_eq (sym (sized c.before.before.before.before.before.before.before)))
+    row_asks _ _ _ _ _ c.requires _ (some c.before.before.before.before.before.before) c.loop-i.invariant.0 _ _ _ _ c.list_place-place.ensures _
+    (le_of_eq (sym (sized c.before.before.before.before.before.before)))
 
 pub returns-then-value : goal.returns-then-value
 unfolding of_bits
 returns-then-value c =
-    λ w. let low = some c.before.before.before.before.before.before.before.before.before in
-    solving_stop _ _ _ _ _ w _ _ (c.loop.invariant.2 w) low c.loop.invariant.0 _ (row_solved _ _ _ _ _ w _ low c.loop.invariant.0 _ _ _ _
-    c.list-place.ensures _ _ (c.loop.invariant.2 w).rights _ c.solved_row-value.ensures) c.if-value.true
+    λ w. let low = some c.before.before.before.before.before.before.before.before in
+    solving_stop _ _ _ _ _ w _ _ (c.loop-i.invariant.2 w) low c.loop-i.invariant.0 _ (row_solved _ _ _ _ _ w _ low c.loop-i.invariant.0 _ _ _ _
+    c.list_place-place.ensures _ _ (c.loop-i.invariant.2 w).rights _ c.solved_row-value.ensures) c.if-value.true
 
 pub offset_bounds-x-above-in-loop-i : goal.offset_bounds-x-above-in-loop-i
 offset_bounds-x-above-in-loop-i c = (own c.before.before.before.before.before.before.before.before).fits
@@ -109,15 +109,14 @@ loop-i-smaller c = falls_down _ c.loop-i-test.true
 
 pub loop-i-preserved : goal.loop-i-preserved
 unfolding of_bits
-loop-i-preserved c =
-    (
-      le_trans (sub-le _ 1) c.loop.invariant.0,
-      (simp length-set c.loop.invariant.1.0, c.loop.invariant.1.1),
-      λ w.
-          let low = some c.before.before.before.before.before.before.before.before.before in
-          solving_turn _ _ _ _ _ w _ _ (c.loop.invariant.2 w) low c.loop.invariant.0 _ (row_solved _ _ _ _ _ w _ low c.loop.invariant.0 _ _ _ _
-          c.list-place.ensures _ _ (c.loop.invariant.2 w).rights _ c.solved_row-value.ensures) c.if-value.false,
-    )
+loop-i-preserved c = (
+  le_trans (sub-le _ 1) c.loop-i.invariant.0,
+  (simp length-set c.loop-i.invariant.1.0, c.loop-i.invariant.1.1),
+  λ w.
+      let low = some c.before.before.before.before.before.before.before.before in
+      solving_turn _ _ _ _ _ w _ _ (c.loop-i.invariant.2 w) low c.loop-i.invariant.0 _ (row_solved _ _ _ _ _ w _ low c.loop-i.invariant.0 _ _ _ _
+      c.list_place-place.ensures _ _ (c.loop-i.invariant.2 w).rights _ c.solved_row-value.ensures) c.if-value.false,
+)
 
 pub returns : goal.returns
 returns c = λ w. solving_end _ _ _ _ _ w _ _ (c.loop-i.invariant.2 w) c.loop-i-test.false
