@@ -1,18 +1,12 @@
 -- `run_load::load` meets its contract: the rows before i + 1 are loaded.
 use mathlib.Core.Path.{refl, sym, ◌∙◌}
-use Prim.Native.Nat.{◌-◌}
 use native.Mathlib.Nat.{le_of_eq}
 use Rattle.lists.proofs.Small.{least, less, next_le}
 use Rattle.foundation.specs.Pattern.{lent}
 use Rattle.run_load.proofs.Copied.{copied_whole}
 use Rattle.run_load.proofs.Whole.{line_lies, LineLends, line_lends, line_asks, line_leaves, all_start, all_end}
 use Rattle.run_load.proofs.load.Goals as goal
-use Rattle.run_load.proofs.load.Lts as lts
-use Rattle.run_load.proofs.load.Reads as reads
-use Rattle.run_load.proofs.load.Tie as tie
-
-abbrev In-loop-i : Type 0
-In-loop-i = lts.In-loop tie.the-claims reads.Pre reads.Post goal.the-invariant-loop-i goal.the-decreases-loop-i
+use Rattle.run_load.proofs.load.Goals.{In-loop-i}
 
 -- all rows are loaded
 pub returns : goal.returns
@@ -34,53 +28,52 @@ copy_in-requires c =
 
 pub loop-i-init : goal.loop-i-init
 unfolding lent
-loop-i-init c =
-    (
-      least _,
-      (refl, refl, refl),
-      c.well_formed.1.1.1.0.1,
-      λ l. line_lies _ _ _ _ _ c.requires _ l,
-      λ x w. all_start _ _ _ _ _ w,
-    )
+loop-i-init c = (
+  least _,
+  (refl, refl, refl),
+  c.well_formed.1.1.1.0.1,
+  λ l. line_lies _ _ _ _ _ c.requires _ l,
+  λ x w. all_start _ _ _ _ _ w,
+)
 
 pub offset_bounds-starts-i : goal.offset_bounds-starts-i
-offset_bounds-starts-i c = (line c.before).here_fits
+offset_bounds-starts-i c = (line (goal.at.offset_bounds-starts-i c).In-loop-i).here_fits
 
 pub bounds-starts-i : goal.bounds-starts-i
-bounds-starts-i c = (line c.before.before).here_in
+bounds-starts-i c = (line (goal.at.bounds-starts-i c).In-loop-i).here_in
 
 pub overflow_add-i : goal.overflow_add-i
-overflow_add-i c = (line c.before.before).sum_fits
+overflow_add-i c = (line (goal.at.overflow_add-i c).In-loop-i).sum_fits
 
 pub offset_bounds-starts-i-in-loop-i : goal.offset_bounds-starts-i-in-loop-i
-offset_bounds-starts-i-in-loop-i c = (line c.before.before).next_fits
+offset_bounds-starts-i-in-loop-i c = (line (goal.at.offset_bounds-starts-i-in-loop-i c).In-loop-i).next_fits
 
 pub bounds-starts-i-in-loop-i : goal.bounds-starts-i-in-loop-i
-bounds-starts-i-in-loop-i c = (line c.before.before.before).next_in
+bounds-starts-i-in-loop-i c = (line (goal.at.bounds-starts-i-in-loop-i c).In-loop-i).next_in
 
 pub offset_bounds-columns-from : goal.offset_bounds-columns-from
-offset_bounds-columns-from c = (line c.before.before.before).from-fits
+offset_bounds-columns-from c = (line (goal.at.offset_bounds-columns-from c).In-loop-i).from-fits
 
 pub slice_bounds-load_row-count : goal.slice_bounds-load_row-count
-slice_bounds-load_row-count c = (line c.before.before.before).rises
+slice_bounds-load_row-count c = (line (goal.at.slice_bounds-load_row-count c).In-loop-i).rises
 
 pub slice_bounds-load_row-start : goal.slice_bounds-load_row-start
-slice_bounds-load_row-start c = (line c.before.before.before).rises
+slice_bounds-load_row-start c = (line (goal.at.slice_bounds-load_row-start c).In-loop-i).rises
 
 pub slice_bounds-load_row-end : goal.slice_bounds-load_row-end
-slice_bounds-load_row-end c = (line c.before.before.before).in_columns
+slice_bounds-load_row-end c = (line (goal.at.slice_bounds-load_row-end c).In-loop-i).in_columns
 
 pub offset_bounds-values-from : goal.offset_bounds-values-from
-offset_bounds-values-from c = (line c.before.before.before.before).from-fits
+offset_bounds-values-from c = (line (goal.at.offset_bounds-values-from c).In-loop-i).from-fits
 
 pub slice_bounds-load_row-count-in-loop-i : goal.slice_bounds-load_row-count-in-loop-i
-slice_bounds-load_row-count-in-loop-i c = (line c.before.before.before.before).rises
+slice_bounds-load_row-count-in-loop-i c = (line (goal.at.slice_bounds-load_row-count-in-loop-i c).In-loop-i).rises
 
 pub slice_bounds-load_row-start-in-loop-i : goal.slice_bounds-load_row-start-in-loop-i
-slice_bounds-load_row-start-in-loop-i c = (line c.before.before.before.before).rises
+slice_bounds-load_row-start-in-loop-i c = (line (goal.at.slice_bounds-load_row-start-in-loop-i c).In-loop-i).rises
 
 pub slice_bounds-load_row-end-in-loop-i : goal.slice_bounds-load_row-end-in-loop-i
-slice_bounds-load_row-end-in-loop-i c = (line c.before.before.before.before).in_values
+slice_bounds-load_row-end-in-loop-i c = (line (goal.at.slice_bounds-load_row-end-in-loop-i c).In-loop-i).in_values
 
 pub load_row-requires : goal.load_row-requires
 unfolding lent

@@ -24,7 +24,7 @@ overflow_add-at c =
     let list = c.list_place-list.ensures in
     let up = slot-ascends _ _ _ c.requires _ _ _ _ list in
     let f = slot-before _ _ _ c.requires _ _ _ _ list _ (c.place_of.ensures.1 up) in
-    record { fits = omega (arith, f, list.next_is, c.shared_slice_known-3-1.given c.args.k) }
+    record { fits = omega (arith, f, list.next_is, c.type_inv.slots c.args.k) }
 
 pub returns : goal.returns
 returns c =

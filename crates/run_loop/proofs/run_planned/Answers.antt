@@ -18,9 +18,8 @@ finish-requires c =
 
 pub returns : goal.returns
 unfolding lent
-returns c =
-    (
-      c.run_steps-end.ensures.0,
-      λ w. run_ends w c.steps_of-count.ensures (c.load.ensures w.load) c.run_steps-end.result
-          c.finish.result _ _ _ _ _ _ c.run_steps-end.ensures.1 c.finish.ensures,
-    )
+returns c = (
+  c.run_steps-end.ensures.0,
+  λ w. run_ends w c.steps_of-count.ensures (c.load.ensures w.load) c.run_steps-end.result
+      c.finish.result _ _ _ _ _ _ c.run_steps-end.ensures.1 c.finish.ensures,
+)

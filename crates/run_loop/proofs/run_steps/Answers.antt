@@ -1,6 +1,5 @@
 -- `run_loop::run_steps` meets its contract. The loop's invariant: the steps before k are done; its measure: the steps to come. Assumes nothing.
 use mathlib.Core.Path.{refl}
-use Prim.Native.Nat.{◌-◌}
 use Rattle.run_loop.proofs.Stepwise.{place_fits, next_fits, updates_fit, steps_less, under_start, rows-enough, under-small, under-room}
 use Rattle.run_loop.proofs.Stepwise.{under-asks, under-few, under_on, under_lacks, under_unsound, under_end}
 use Rattle.run_loop.proofs.run_steps.Goals as goal
@@ -15,20 +14,18 @@ pub step-end-requires : goal.step-end-requires
 step-end-requires c = under-asks c.requires c.loop-k.invariant c.loop-k-test.true c.row_asked-row.ensures
 
 pub returns-in-NoPivot : goal.returns-in-NoPivot
-returns-in-NoPivot c =
-    (
-      c.step-end.ensures.0,
-      under_lacks c.loop-k.invariant c.loop-k-test.true c.row_asked-row.ensures
-          c.in-NoPivot.ensures.1,
-    )
+returns-in-NoPivot c = (
+  c.step-end.ensures.0,
+  under_lacks c.loop-k.invariant c.loop-k-test.true c.row_asked-row.ensures
+      c.in-NoPivot.ensures.1,
+)
 
 pub returns-in-NotFinite : goal.returns-in-NotFinite
-returns-in-NotFinite c =
-    (
-      c.step-end.ensures.0,
-      under_unsound c.loop-k.invariant c.loop-k-test.true c.row_asked-row.ensures
-          c.in-NotFinite.ensures.1,
-    )
+returns-in-NotFinite c = (
+  c.step-end.ensures.0,
+  under_unsound c.loop-k.invariant c.loop-k-test.true c.row_asked-row.ensures
+      c.in-NotFinite.ensures.1,
+)
 
 pub overflow_sub-pivots : goal.overflow_sub-pivots
 overflow_sub-pivots c = c.loop-k.invariant.low

@@ -4,12 +4,7 @@ use Rattle.lists.proofs.Small.{least, still_inside}
 use Rattle.run_slots.proofs.Lists.{Lends}
 use Rattle.run_sides.proofs.Sides.{side_place, side_lends, copy-room, copy-asks, spread_asks, heads_ask, clear_at_asks, side-leaves}
 use Rattle.run_sides.proofs.reduce_side.Goals as goal
-use Rattle.run_sides.proofs.reduce_side.Lts as lts
-use Rattle.run_sides.proofs.reduce_side.Reads as reads
-use Rattle.run_sides.proofs.reduce_side.Tie as tie
-
-abbrev After-list_place-place : Type 0
-After-list_place-place = lts.After-list_place tie.the-claims reads.Pre reads.Post
+use Rattle.run_sides.proofs.reduce_side.Goals.{After-list_place-place}
 
 side : (c : After-list_place-place)
     → Lends (side_stores c.args.subs.now c.args.starts.now c.args.slots.now) c.args.y.now
@@ -21,31 +16,31 @@ pub list_place-place-requires : goal.list_place-place-requires
 list_place-place-requires c = side_place _ _ _ _ _ _ _ c.requires.0 c.well_formed.1.0.1
 
 pub overflow_sub-count : goal.overflow_sub-count
-overflow_sub-count c = (side c.before).rises
+overflow_sub-count c = (side (goal.at.overflow_sub-count c).After-list_place-place).rises
 
 pub offset_bounds-subs-from : goal.offset_bounds-subs-from
-offset_bounds-subs-from c = (side c.before).from-fits
+offset_bounds-subs-from c = (side (goal.at.offset_bounds-subs-from c).After-list_place-place).from-fits
 
 pub slice_bounds-own-count : goal.slice_bounds-own-count
-slice_bounds-own-count c = (side c.before).opens
+slice_bounds-own-count c = (side (goal.at.slice_bounds-own-count c).After-list_place-place).opens
 
 pub slice_bounds-own-start : goal.slice_bounds-own-start
-slice_bounds-own-start c = (side c.before).opens
+slice_bounds-own-start c = (side (goal.at.slice_bounds-own-start c).After-list_place-place).opens
 
 pub slice_bounds-own-end : goal.slice_bounds-own-end
-slice_bounds-own-end c = (side c.before).closes
+slice_bounds-own-end c = (side (goal.at.slice_bounds-own-end c).After-list_place-place).closes
 
 pub offset_bounds-y-slot : goal.offset_bounds-y-slot
-offset_bounds-y-slot c = (side c.before.before.before).slot-fits
+offset_bounds-y-slot c = (side (goal.at.offset_bounds-y-slot c).After-list_place-place).slot-fits
 
 pub slice_bounds-copy_in-count : goal.slice_bounds-copy_in-count
-slice_bounds-copy_in-count c = (side c.before.before.before).rises
+slice_bounds-copy_in-count c = (side (goal.at.slice_bounds-copy_in-count c).After-list_place-place).rises
 
 pub slice_bounds-copy_in-start : goal.slice_bounds-copy_in-start
-slice_bounds-copy_in-start c = (side c.before.before.before).rises
+slice_bounds-copy_in-start c = (side (goal.at.slice_bounds-copy_in-start c).After-list_place-place).rises
 
 pub slice_bounds-copy_in-end : goal.slice_bounds-copy_in-end
-slice_bounds-copy_in-end c = (side c.before.before.before).ends
+slice_bounds-copy_in-end c = (side (goal.at.slice_bounds-copy_in-end c).After-list_place-place).ends
 
 pub copy_in-requires : goal.copy_in-requires
 copy_in-requires c = copy-asks _ _ _ _ _ _ _ c.requires.0 _ _ _ _ c.list_place-place.ensures

@@ -4,12 +4,7 @@ use Rattle.lists.proofs.Small.{index-fits}
 use Rattle.run_slots.proofs.Lists.{Lends}
 use Rattle.run_step.proofs.WholeStep.{lower_place, lower_lends, own-inside, pivot_asks, no_pivot, bring_asks, elim_asks, not_finite, went}
 use Rattle.run_step.proofs.step.Goals as goal
-use Rattle.run_step.proofs.step.Lts as lts
-use Rattle.run_step.proofs.step.Reads as reads
-use Rattle.run_step.proofs.step.Tie as tie
-
-abbrev After-list_place-column : Type 0
-After-list_place-column = lts.After-list_place tie.the-claims reads.Pre reads.Post
+use Rattle.run_step.proofs.step.Goals.{After-list_place-column}
 
 lower : (c : After-list_place-column)
     → Lends (side_stores c.args.l_subs.now c.args.l_starts.now c.args.l_slots.now) c.args.l.now
@@ -30,28 +25,28 @@ pub bounds-d-k : goal.bounds-d-k
 bounds-d-k c = own-inside _ _ _ _ _ _ c.requires
 
 pub offset_bounds-l-slot : goal.offset_bounds-l-slot
-offset_bounds-l-slot c = (lower c.before.before).slot-fits
+offset_bounds-l-slot c = (lower (goal.at.offset_bounds-l-slot c).After-list_place-column).slot-fits
 
 pub slice_bounds-pivot-count : goal.slice_bounds-pivot-count
-slice_bounds-pivot-count c = (lower c.before.before).rises
+slice_bounds-pivot-count c = (lower (goal.at.slice_bounds-pivot-count c).After-list_place-column).rises
 
 pub slice_bounds-pivot-start : goal.slice_bounds-pivot-start
-slice_bounds-pivot-start c = (lower c.before.before).rises
+slice_bounds-pivot-start c = (lower (goal.at.slice_bounds-pivot-start c).After-list_place-column).rises
 
 pub slice_bounds-pivot-end : goal.slice_bounds-pivot-end
-slice_bounds-pivot-end c = (lower c.before.before).ends
+slice_bounds-pivot-end c = (lower (goal.at.slice_bounds-pivot-end c).After-list_place-column).ends
 
 pub offset_bounds-l_subs-from : goal.offset_bounds-l_subs-from
-offset_bounds-l_subs-from c = (lower c.before.before.before).from-fits
+offset_bounds-l_subs-from c = (lower (goal.at.offset_bounds-l_subs-from c).After-list_place-column).from-fits
 
 pub slice_bounds-pivot-count-2 : goal.slice_bounds-pivot-count-2
-slice_bounds-pivot-count-2 c = (lower c.before.before.before).opens
+slice_bounds-pivot-count-2 c = (lower (goal.at.slice_bounds-pivot-count-2 c).After-list_place-column).opens
 
 pub slice_bounds-pivot-start-2 : goal.slice_bounds-pivot-start-2
-slice_bounds-pivot-start-2 c = (lower c.before.before.before).opens
+slice_bounds-pivot-start-2 c = (lower (goal.at.slice_bounds-pivot-start-2 c).After-list_place-column).opens
 
 pub slice_bounds-pivot-end-2 : goal.slice_bounds-pivot-end-2
-slice_bounds-pivot-end-2 c = (lower c.before.before.before).closes
+slice_bounds-pivot-end-2 c = (lower (goal.at.slice_bounds-pivot-end-2 c).After-list_place-column).closes
 
 pub pivot-found-requires : goal.pivot-found-requires
 pivot-found-requires c = pivot_asks _ _ _ _ _ _ c.requires _ _ _ _ c.list_place-column.ensures
@@ -65,25 +60,22 @@ bring-requires c =
     bring_asks _ _ _ _ _ _ c.requires _ _ _ _ c.list_place-column.ensures _ _ c.pivot-found.ensures c.if-p-eq0.false
 
 pub eliminate-made-requires : goal.eliminate-made-requires
-eliminate-made-requires c =
-    (
-      elim_asks _ _ _ _ _ _ c.requires _ _ _ _ c.list_place-column.ensures _ _ c.pivot-found.ensures c.if-p-eq0.false _
-          c.bring.ensures,
-      c.requires.clear,
-    )
+eliminate-made-requires c = (
+  elim_asks _ _ _ _ _ _ c.requires _ _ _ _ c.list_place-column.ensures _ _ c.pivot-found.ensures c.if-p-eq0.false _
+      c.bring.ensures,
+  c.requires.clear,
+)
 
 pub returns-then-made-ne0 : goal.returns-then-made-ne0
-returns-then-made-ne0 c =
-    (
-      c.eliminate-made.ensures.0,
-      λ w. not_finite _ _ _ _ _ _ w _ _ _ _ c.list_place-column.ensures _ _ c.pivot-found.ensures c.if-p-eq0.false _
-          c.bring.ensures _ _ _ c.eliminate-made.ensures.1 c.if-made-ne0.true,
-    )
+returns-then-made-ne0 c = (
+  c.eliminate-made.ensures.0,
+  λ w. not_finite _ _ _ _ _ _ w _ _ _ _ c.list_place-column.ensures _ _ c.pivot-found.ensures c.if-p-eq0.false _
+      c.bring.ensures _ _ _ c.eliminate-made.ensures.1 c.if-made-ne0.true,
+)
 
 pub returns : goal.returns
-returns c =
-    (
-      c.eliminate-made.ensures.0,
-      λ w. went _ _ _ _ _ _ w _ _ _ _ c.list_place-column.ensures _ _ c.pivot-found.ensures c.if-p-eq0.false _
-          c.bring.ensures _ _ _ c.eliminate-made.ensures.1 c.if-made-ne0.false,
-    )
+returns c = (
+  c.eliminate-made.ensures.0,
+  λ w. went _ _ _ _ _ _ w _ _ _ _ c.list_place-column.ensures _ _ c.pivot-found.ensures c.if-p-eq0.false _
+      c.bring.ensures _ _ _ c.eliminate-made.ensures.1 c.if-made-ne0.false,
+)

@@ -1,10 +1,10 @@
 -- `count_nonzero` meets its contract: the loop's invariant is `Counting`.
-use mathlib.Core.Logic.{⊎_elim}
 use mathlib.Core.Path.{◌∙◌}
 use lib.Ieee.{of_bits}
 use borrow.Author.Rules.{rules}
 use Rattle.run_column.proofs.Dividing.{counting_start, counting_turn, counting_end, counted, uncounted}
 use Rattle.run_column.proofs.loops.count_nonzero.Goals as goal
+use Rattle.run_column.proofs.loops.count_nonzero.Goals.{then-values-q, else-values-q}
 
 pub loop-q-init : goal.loop-q-init
 loop-q-init c = (search rules, counting_start _)
@@ -17,7 +17,7 @@ unfolding of_bits
 loop-q-preserved c = (
   search rules,
   counting_turn _ _ _ _ c.loop-q.invariant.1 (search rules)
-      (⊎_elim (λ x. x.count-is ∙ counted _ _ x.if-values-q.true) (λ x. x.count-is ∙ uncounted _ _ x.if-values-q.false) c.if-values-q.branch-raw),
+      (elim c.if-values-q.branch [ then-values-q x ↦ x.count-is ∙ counted _ _ x.if-values-q.true | else-values-q x ↦ x.count-is ∙ uncounted _ _ x.if-values-q.false ]),
 )
 
 pub returns : goal.returns

@@ -1,6 +1,5 @@
 -- `reduce_right` meets its contract: the loop's invariant is `Rewritten`, of the rows done.
 use mathlib.Core.List.{List}
-use mathlib.Core.Logic.{⊎_elim}
 use mathlib.Core.Path.{refl, ap, ◌∙◌}
 use Prim.Native.Nat.{◌-◌}
 use lib.Ieee.{Float, nan, of_bits}
@@ -11,14 +10,7 @@ use Rattle.run_slots.proofs.Flags.{flag-set, flag_left}
 use Rattle.run_slots.proofs.Products.{less_zero, less_nonzero}
 use Rattle.run_column.proofs.Rewriting.{row_low, row_high, rewriting_start, rewriting_reads, rewriting_turn, rewriting_end, followed-read}
 use Rattle.run_column.proofs.loops.reduce_right.Goals as goal
-use Rattle.run_column.proofs.loops.reduce_right.Lts as lts
-use Rattle.run_column.proofs.loops.reduce_right.Reads as reads
-
-abbrev Start : Type 0
-Start = lts.Start reads.Pre reads.Post goal.the-invariant-loop-t goal.the-decreases-loop-t
-
-abbrev In-loop-t : Type 0
-In-loop-t = lts.In-loop reads.Pre reads.Post goal.the-invariant-loop-t goal.the-decreases-loop-t
+use Rattle.run_column.proofs.loops.reduce_right.Goals.{Start, In-loop-t, then-m, else-m, then-new, else-new}
 
 -- the place of the pivot row, and of the row at hand
 top : (s : Start) → Placed (length s.args.x.now) s.args.k
@@ -32,10 +24,10 @@ pub overflow_sub-top : goal.overflow_sub-top
 overflow_sub-top c = c.requires.1
 
 pub offset_bounds-x-k : goal.offset_bounds-x-k
-offset_bounds-x-k c = (top c.before).fits
+offset_bounds-x-k c = (top (goal.at.offset_bounds-x-k c).Start).fits
 
 pub bounds-x-k : goal.bounds-x-k
-bounds-x-k c = (top c.before.before).inside
+bounds-x-k c = (top (goal.at.bounds-x-k c).Start).inside
 
 pub loop-t-init : goal.loop-t-init
 loop-t-init c = (least _, refl, refl, λ f m e v. rewriting_start _ _ _ _ _ e)
@@ -53,22 +45,22 @@ pub bounds-factors-t : goal.bounds-factors-t
 bounds-factors-t c = still_below c.loop-t-test.true c.requires.0
 
 pub overflow_sub-old : goal.overflow_sub-old
-overflow_sub-old c = (row c.before.before.before).low
+overflow_sub-old c = (row (goal.at.overflow_sub-old c).In-loop-t).low
 
 pub offset_bounds-x-i : goal.offset_bounds-x-i
-offset_bounds-x-i c = (row c.before.before.before).fits
+offset_bounds-x-i c = (row (goal.at.offset_bounds-x-i c).In-loop-t).fits
 
 pub bounds-x-i : goal.bounds-x-i
-bounds-x-i c = (row c.before.before.before.before).inside
+bounds-x-i c = (row (goal.at.bounds-x-i c).In-loop-t).inside
 
 pub overflow_sub-x : goal.overflow_sub-x
-overflow_sub-x c = (row c.before.before.before.before.before).low
+overflow_sub-x c = (row (goal.at.overflow_sub-x c).In-loop-t).low
 
 pub offset_bounds-x-i-in-loop-t : goal.offset_bounds-x-i-in-loop-t
-offset_bounds-x-i-in-loop-t c = (row c.before.before.before.before.before).fits
+offset_bounds-x-i-in-loop-t c = (row (goal.at.offset_bounds-x-i-in-loop-t c).In-loop-t).fits
 
 pub bounds-x-i-in-loop-t : goal.bounds-x-i-in-loop-t
-bounds-x-i-in-loop-t c = (row c.before.before.before.before.before).inside
+bounds-x-i-in-loop-t c = (row (goal.at.bounds-x-i-in-loop-t c).In-loop-t).inside
 
 pub overflow_add-t : goal.overflow_add-t
 overflow_add-t c = next_fits c.loop-t-test.true c.well_formed.1.0.1
@@ -91,8 +83,8 @@ loop-t-preserved c =
           (followed-read f m rows _ _ _ _ c.args.k c.loop-t.t v l (c.loop-t.invariant.2 ∙ ap (λ (zs : List Float). get_or zs (c.args.k - 1) nan) e ∙
           map-upto_at f _ c.args.k nan c.requires.1 c.requires.2)
           (rewriting_reads _ _ rows _ _ _ _ c.loop-t.t h c.requires.3 l high)
-          (⊎_elim (λ x. x.new-is ∙ less_zero _ _ _ x.if-m.true) (λ x. x.new-is ∙ less_nonzero _ _ _ x.if-m.false) c.if-m.branch-raw))
-          (⊎_elim (λ x. x.bad-is ∙ flag-set _ _ x.if-new.true) (λ x. x.bad-is ∙ flag_left _ _ x.if-new.false) c.if-new.branch-raw),
+          (elim c.if-m.branch [ then-m x ↦ x.new-is ∙ less_zero _ _ _ x.if-m.true | else-m x ↦ x.new-is ∙ less_nonzero _ _ _ x.if-m.false ]))
+          (elim c.if-new.branch [ then-new x ↦ x.bad-is ∙ flag-set _ _ x.if-new.true | else-new x ↦ x.bad-is ∙ flag_left _ _ x.if-new.false ]),
     )
 
 pub returns : goal.returns

@@ -1,6 +1,7 @@
 -- `reduce_lists` meets its contract: the loop's invariant is `Partly`, the new square on the lists done.
-use mathlib.Core.Path.{refl, sym, ◌∙◌}
+use mathlib.Core.Path.{refl, sym}
 use native.Mathlib.Nat.{le_refl, le_of_eq}
+use native.Mathlib.Omega.{arith}
 use lib.Ieee.{of_bits}
 use Rattle.run_slots.proofs.Lists.{Lends}
 use Rattle.lists.proofs.Small.{least, less, next_le, short_of, still_inside, still_below, room_same, end_fits, place_fits, index-fits, next_fits}
@@ -9,12 +10,7 @@ use Rattle.run_sides.proofs.Heads.{under_start, under_next, under_at, partly_sta
 use Rattle.run_sides.proofs.Heads.{asked, head_place, head_lends, cell_fits, values_length}
 use Rattle.foundation.specs.Numbers.{is_zero, plus_zero}
 use Rattle.run_sides.proofs.crossing.reduce_lists.Goals as goal
-use Rattle.run_sides.proofs.crossing.reduce_lists.Lts as lts
-use Rattle.run_sides.proofs.crossing.reduce_lists.Reads as reads
-use Rattle.run_sides.proofs.crossing.reduce_lists.Tie as tie
-
-abbrev After-list_place-place : Type 0
-After-list_place-place = lts.After-list_place tie.the-claims reads.Pre reads.Post goal.the-invariant-loop-t goal.the-decreases-loop-t
+use Rattle.run_sides.proofs.crossing.reduce_lists.Goals.{After-list_place-place}
 
 head : (c : After-list_place-place)
     → Lends (side_stores c.args.subs.now c.args.starts.now c.args.slots.now)
@@ -89,28 +85,28 @@ overflow_add-cell c =
     c.first_above-s.ensures.0) c.well_formed.1.0.1
 
 pub offset_bounds-y-slot : goal.offset_bounds-y-slot
-offset_bounds-y-slot c = (head c.before.before).slot-fits
+offset_bounds-y-slot c = (head (goal.at.offset_bounds-y-slot c).After-list_place-place).slot-fits
 
 pub slice_bounds-reduce_list-count : goal.slice_bounds-reduce_list-count
-slice_bounds-reduce_list-count c = (head c.before.before).rises
+slice_bounds-reduce_list-count c = (head (goal.at.slice_bounds-reduce_list-count c).After-list_place-place).rises
 
 pub slice_bounds-reduce_list-start : goal.slice_bounds-reduce_list-start
-slice_bounds-reduce_list-start c = (head c.before.before).rises
+slice_bounds-reduce_list-start c = (head (goal.at.slice_bounds-reduce_list-start c).After-list_place-place).rises
 
 pub slice_bounds-reduce_list-end : goal.slice_bounds-reduce_list-end
-slice_bounds-reduce_list-end c = (head c.before.before).ends
+slice_bounds-reduce_list-end c = (head (goal.at.slice_bounds-reduce_list-end c).After-list_place-place).ends
 
 pub offset_bounds-subs-from : goal.offset_bounds-subs-from
-offset_bounds-subs-from c = (head c.before.before.before).from-fits
+offset_bounds-subs-from c = (head (goal.at.offset_bounds-subs-from c).After-list_place-place).from-fits
 
 pub slice_bounds-reduce_list-count-in-loop-t : goal.slice_bounds-reduce_list-count-in-loop-t
-slice_bounds-reduce_list-count-in-loop-t c = (head c.before.before.before).opens
+slice_bounds-reduce_list-count-in-loop-t c = (head (goal.at.slice_bounds-reduce_list-count-in-loop-t c).After-list_place-place).opens
 
 pub slice_bounds-reduce_list-start-in-loop-t : goal.slice_bounds-reduce_list-start-in-loop-t
-slice_bounds-reduce_list-start-in-loop-t c = (head c.before.before.before).opens
+slice_bounds-reduce_list-start-in-loop-t c = (head (goal.at.slice_bounds-reduce_list-start-in-loop-t c).After-list_place-place).opens
 
 pub slice_bounds-reduce_list-end-in-loop-t : goal.slice_bounds-reduce_list-end-in-loop-t
-slice_bounds-reduce_list-end-in-loop-t c = (head c.before.before.before).closes
+slice_bounds-reduce_list-end-in-loop-t c = (head (goal.at.slice_bounds-reduce_list-end-in-loop-t c).After-list_place-place).closes
 
 pub offset_bounds-over-s : goal.offset_bounds-over-s
 offset_bounds-over-s c = place_fits c.first_above-s.ensures.0 c.well_formed.1.1.1.1.1.1.0.1
@@ -152,7 +148,7 @@ loop-t-preserved c =
     let q = c.first_above-s.ensures in (
       next_le _ _ l,
       q.0,
-      c.y-1.given.1 ∙ c.loop-t.invariant.2,
+      omega arith,
       under_next 0 _ _ _ _ c.requires.reduction.once l q.1,
       λ w. partly_turn _ _ _ _ _ _ _ _ w _ _ _ _ (c.loop-t.invariant.4 w) l _ (short_of q.0 c.if-s-over.false) q.1 q.2 _ _ _ _
           c.list_place-place.ensures _ _ c.reduce_list-bad.ensures,
