@@ -1,4 +1,6 @@
 // A run once planning has answered about the lent plan: the tests 26, 10, 11 and 12, the run in cleared stores, and what it leaves.
+#![tactic(auto)]
+
 ghost use Rattle.foundation.specs.Pattern.{lent};
 ghost use Rattle.answers.specs.RunStores.{run_stores};
 ghost use Rattle.answers.specs.Runs.{chosen_by, extent_of};

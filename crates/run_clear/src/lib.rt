@@ -1,4 +1,6 @@
 // Stores are cleared before a run, and after a run that stopped.
+#![tactic(auto)]
+
 ghost use Rattle.std.specs.Prelude.{◌≡◌, length};
 ghost use Rattle.foundation.specs.Answer.{work_store};
 ghost use Rattle.foundation.specs.Numbers.{plus_zero};

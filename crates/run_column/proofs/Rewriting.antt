@@ -1,5 +1,5 @@
 -- Laws of the loops over rows: of a store that has a place for each row, those of some rows are written anew.
-use mathlib.Core.Bool.{Bool, true, false, ◌&&◌}
+use mathlib.Core.Bool.{true, false}
 use mathlib.Core.List.{List, [], ◌∷◌, ◌++◌, map}
 use mathlib.Core.Path.{◌≡◌, refl, sym, ap, ◌∙◌}
 use Prim.Native.Nat.{ℕ, zero, suc, ◌+◌, ◌-◌, ◌≤◌, ◌<◌}
@@ -14,7 +14,7 @@ use borrow.Author.Tests.{le-leb, lt-leb}
 use Rattle.run_slots.specs.Products.{less_product}
 use Rattle.lists.specs.Functions.{all, keep}
 use Rattle.lists.specs.Sets.{member, upto, Ascending}
-use Rattle.lists.proofs.Members.{by_test, fails, not-member-nil, all_snoc, member_snoc, member_snoc_other}
+use Rattle.lists.proofs.Members.{fails, not-member-nil, all_snoc, member_snoc, member_snoc_other}
 use Rattle.lists.proofs.Kept.{keep-nothing}
 use Rattle.lists.proofs.Order.{member-low, member_first}
 use Rattle.lists.proofs.Places.{ascending_at, member_at, get_or_mapped, not-before, map-upto_at}
@@ -23,7 +23,7 @@ use Rattle.foundation.specs.Reference.{reduced}
 use Rattle.foundation.proofs.FloatSteps.{reduced_left}
 use Rattle.run_slots.specs.Flags.{flagged, with_diagonal}
 use Rattle.run_slots.proofs.Flags.{flagged_more}
-use Rattle.run_slots.proofs.Mapped.{map_cong, set-map, map-upto-set}
+use Rattle.run_slots.proofs.Mapped.{map_cong, map-upto-set}
 use Rattle.store_search.proofs.Places.{found-member}
 use Rattle.run_stretch.specs.Stretches.{Below, UpTo}
 use Rattle.run_column.specs.Column.{rewritten, Rewritten}

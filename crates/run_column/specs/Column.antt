@@ -1,9 +1,8 @@
 -- What a step does beside the two sides: the multipliers, the right side and the diagonal.
 use Rattle.std.specs.Prelude.{true, false, cond, List, map, ◌≡◌, ℕ, suc, ◌*◌, ◌≤◌, ◌<◌, Float}
-use Rattle.run_slots.specs.Products.{less_product}
 use Rattle.lists.specs.Functions.{all}
 use Rattle.lists.specs.Sets.{member, upto, Ascending}
-use Rattle.foundation.specs.Numbers.{is_zero, finite, product, difference, quotient}
+use Rattle.foundation.specs.Numbers.{is_zero, finite, quotient}
 use Rattle.foundation.specs.Reference.{multiplier, eliminated, eliminated_right}
 use Rattle.foundation.specs.Shown.{shown_diagonal}
 use Rattle.foundation.specs.Square.{Square}

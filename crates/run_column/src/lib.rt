@@ -1,4 +1,6 @@
 // What a step does beside the two sides: the multipliers of column k, the right side, the diagonal, and how many updates the step makes.
+#![tactic(auto)]
+
 ghost use Rattle.run_column.specs.Column.{ColumnAsks, ColumnLeaves};
 
 mod loops;

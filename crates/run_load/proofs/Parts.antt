@@ -8,7 +8,7 @@ use native.Mathlib.Numerals.{add-one}
 use native.Mathlib.Omega.{arith}
 use lib.Dec.{eqb}
 use lib.ListN.{length, take, drop, get_or}
-use lib.Seq.{slice, length-slice}
+use lib.Seq.{length-slice}
 use borrow.Author.Tests.{eqb-true}
 use Rattle.lists.specs.Functions.{total}
 use Rattle.lists.specs.Sets.{upto}

@@ -12,7 +12,7 @@ use lib.Ieee.{Float, nan}
 use lib.ListN.{length, take, drop, get_or, replicate, length-take, length-drop, replicate-append-replicate}
 use lib.Seq.{get_or-take, get_or-drop, ext_get_or}
 use borrow.Author.Tests.{lt-ltb, le-ltb, le-leb}
-use Rattle.lists.specs.Functions.{all, padded}
+use Rattle.lists.specs.Functions.{padded}
 use Rattle.lists.specs.Sets.{member, run, upto, index_of, Ascending}
 use Rattle.lists.proofs.Members.{by_test}
 use Rattle.lists.proofs.Places.{at_index, member_at, length-map_run, get_or-map_run}

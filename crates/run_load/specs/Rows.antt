@@ -1,9 +1,9 @@
 -- Loading the rows of a pattern, entry after entry.
-use Rattle.std.specs.Prelude.{Bool, true, false, cond, ◌&&◌, ◌||◌, List, [], ◌≡◌, ℕ, ◌-◌, ◌≤◌, ◌<◌, eqb, ltb, Float, length, get_or}
+use Rattle.std.specs.Prelude.{Bool, true, cond, ◌&&◌, ◌||◌, List, [], ◌≡◌, ℕ, ◌-◌, ◌≤◌, ◌<◌, eqb, ltb, Float, length, get_or}
 use Rattle.std.specs.Float.{nan}
 use Rattle.lists.specs.Sets.{member, Ascending}
 use Rattle.foundation.specs.Numbers.{plus_zero}
-use Rattle.foundation.specs.Plan.{Planning, Side, lower, upper}
+use Rattle.foundation.specs.Plan.{Planning, lower, upper}
 use Rattle.foundation.specs.PlanCall.{PlanStores}
 use Rattle.foundation.specs.Square.{Square}
 use Rattle.foundation.specs.Subscripts.{kept}

@@ -1,21 +1,20 @@
 -- A whole run: from what loading leaves to the steps, from the steps to back substitution, and what that is of the reference.
 use mathlib.Core.Bool.{true}
-use mathlib.Core.List.{List, [], ◌∷◌, map}
+use mathlib.Core.List.{List, map}
 use mathlib.Core.Path.{◌≡◌, refl, sym, ap, ◌∙◌}
 use Prim.Native.Nat.{ℕ, zero, suc, ◌≤◌}
 use native.Mathlib.Omega.{arith}
 use lib.Ieee.{Float}
-use lib.ListN.{get_or}
 use borrow.Author.Tests.{leb-true}
 use Rattle.lists.specs.Functions.{all, padded}
 use Rattle.lists.specs.Sets.{upto}
 use Rattle.lists.proofs.Members.{by_test, and_left, and_right}
-use Rattle.foundation.specs.Closed.{Closed, Held, marked}
+use Rattle.foundation.specs.Closed.{Closed, marked}
 use Rattle.foundation.specs.Facts.{Plannable}
 use Rattle.foundation.specs.Numbers.{plus_zero, finite, is_plus_zero}
 use Rattle.foundation.specs.Pattern.{Lent, Pattern, present, pattern_of}
 use Rattle.foundation.specs.Plan.{Planning}
-use Rattle.foundation.specs.Reference.{Choice, Extent, whole, cut, steps_of, Reason, Going, Course, going, stopped, running, starting, solved, ended, reference}
+use Rattle.foundation.specs.Reference.{Choice, Extent, whole, cut, steps_of, Going, Course, going, running, starting, solved, ended, reference}
 use Rattle.foundation.specs.PlanCall.{PlanStores}
 use Rattle.foundation.specs.RunCall.{choice_fits, extent_fits, order_fits, may_run, value_at, right_at}
 use Rattle.foundation.specs.Square.{Square, placed}

@@ -1,4 +1,6 @@
 // The run on a plan that is known to be the pattern's: the steps one after the other, and loading, steps and back substitution in turn.
+#![tactic(auto)]
+
 ghost use Rattle.foundation.specs.Pattern.{lent};
 ghost use Rattle.answers.specs.RunStores.{run_stores};
 ghost use Rattle.answers.specs.Runs.{chosen_by, extent_of};

@@ -1,5 +1,7 @@
 // A side's part of a step of the elimination: off every list of the side that the step reaches, a factor times the numbers of list k. Rows
 // (U) and columns (L) are one function, since the order of a product does not show.
+#![tactic(auto)]
+
 ghost use Rattle.answers.specs.Stores.{side_stores};
 ghost use Rattle.run_slots.specs.Handing.{Clear};
 ghost use Rattle.run_sides.specs.Side.{SideAsks, SideLeaves};

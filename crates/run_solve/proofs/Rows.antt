@@ -2,11 +2,10 @@
 use mathlib.Core.Bool.{Bool, true, false, not, ◌&&◌, true≢false, beq}
 use mathlib.Core.List.{List, [], ◌∷◌, map}
 use mathlib.Core.Path.{◌≡◌, refl, sym, ap, ◌∙◌}
-use Prim.Native.Nat.{ℕ, zero, suc, ◌+◌, ◌-◌, ◌≤◌, ◌<◌}
+use Prim.Native.Nat.{ℕ, suc, ◌+◌, ◌-◌, ◌≤◌, ◌<◌}
 use native.Mathlib.Numerals.{add-one}
 use native.Mathlib.Omega.{arith}
-use lib.Ieee.{Float, nan, inf, fin, binary64, sub, add, neg, mul, div, eq}
-use lib.IntN.{pos}
+use lib.Ieee.{Float, nan, inf, fin, binary64, sub, add, neg, div}
 use lib.ListN.{length, drop, get_or, drop_of_length-le}
 use lib.Seq.{drop-cons}
 use Rattle.run_slots.specs.Products.{less_product}
@@ -15,7 +14,7 @@ use Rattle.lists.specs.Sets.{member, upto, run, Ascending, between}
 use Rattle.lists.proofs.Members.{by_test, member_head, member_tail, between-low}
 use Rattle.lists.proofs.Order.{member-low}
 use Rattle.lists.proofs.Places.{get_or-map_run}
-use Rattle.foundation.specs.Numbers.{is_zero, finite, product, difference, quotient, plus_zero}
+use Rattle.foundation.specs.Numbers.{is_zero, finite, product, difference, quotient}
 use Rattle.foundation.specs.Reference.{Checked, substituted, solved_row}
 use Rattle.foundation.specs.Square.{Square}
 use Rattle.run_slots.proofs.Floats.{difference-finite}
@@ -48,20 +47,20 @@ one-zero u x value z = rw z
 
 module _ (row solution : ℕ → Float) where
   -- columns that are zero may be left out
-  skips : (c : Checked) (t : ℕ → Bool) (xs : List ℕ) → ((x : ℕ) → member x xs ≡ true → t x ≡ false → is_zero (row x) ≡ true)
+  skips : (t : ℕ → Bool) (xs : List ℕ) (c : Checked) → ((x : ℕ) → member x xs ≡ true → t x ≡ false → is_zero (row x) ≡ true)
       → substituted row solution c xs ≡ substituted row solution c (keep t xs)
   unfolding substituted keep
-  skips c t [] none = refl
-  skips c t (x ∷ xs) none =
+  skips t [] c none = refl
+  skips t (x ∷ xs) c none =
       by_test (t x)
-      (λ e. rw e (skips _ t xs (λ z m. none z (member_tail z x xs m))))
-      (λ e. rw (e, none x (member_head x xs) e) (skips c t xs (λ z m. none z (member_tail z x xs m))))
+      (λ e. rw e (skips t xs _ (λ z m. none z (member_tail z x xs m))))
+      (λ e. rw (e, none x (member_head x xs) e) (skips t xs c (λ z m. none z (member_tail z x xs m))))
 
   -- the row's kept columns in place of all
   sparse : (c : Checked) (a b : ℕ) (xs : List ℕ) → Ascending a xs → ((x : ℕ) → member x xs ≡ true → x ≤ b)
       → ((x : ℕ) → a ≤ x → member x xs ≡ false → is_zero (row x) ≡ true) → substituted row solution c (between a b) ≡ substituted row solution c xs
   sparse c a b xs h under none =
-      skips c (λ x. member x xs) (between a b) (λ x m e. none x (between-low x a b m) e)
+      skips (λ x. member x xs) (between a b) c (λ x m e. none x (between-low x a b m) e)
       ∙ ap (substituted row solution c) (between-members a b xs h under)
 
   -- the number and its soundness after one column that is not zero

@@ -1,8 +1,7 @@
 -- One row of back substitution, as its slots and subscripts read.
-use Rattle.std.specs.Prelude.{cond, List, [], ◌∷◌, ℕ, ◌-◌, ◌≤◌, ◌<◌, Float, length, get_or}
+use Rattle.std.specs.Prelude.{List, [], ◌∷◌, ℕ, ◌-◌, ◌≤◌, ◌<◌, Float, length, get_or}
 use Rattle.std.specs.Float.{nan}
 use Rattle.run_slots.specs.Products.{less_product}
-use Rattle.foundation.specs.Numbers.{is_zero, product, difference}
 
 -- Document 01, "Elimination": "subtract u × solution for nonzero u, columns ascending": off a number, for the u of a row with their columns.
 unfoldable pub less_all : List Float → List ℕ → List Float → Float → Float

@@ -1,4 +1,6 @@
 // Back substitution in the slots: the solution of the rows, from the last to the first.
+#![tactic(auto)]
+
 ghost use Rattle.std.specs.Prelude.{◌≡◌, length};
 ghost use Rattle.foundation.specs.Numbers.{quotient};
 ghost use Rattle.answers.specs.Stores.{side_stores};

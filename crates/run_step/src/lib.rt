@@ -1,5 +1,7 @@
 // One step of the elimination: the pivot row found and brought to row k, then column k, the right side, the diagonal, the rows of U and the
 // columns of L. Nothing stops inside a step: what is not finite sets a flag, which is looked at once, at the step's end.
+#![tactic(auto)]
+
 ghost use Rattle.answers.specs.Stores.{plan_stores};
 ghost use Rattle.run_slots.specs.Handing.{Clear, StepAsks, StepLeaves};
 ghost use Rattle.run_slots.specs.Shows.{square_stores};

@@ -1,4 +1,6 @@
 // Stretches of numbers and of subscripts: m times one is taken off another; a work store is filled by subscripts and cleared again.
+#![tactic(auto)]
+
 ghost use Rattle.std.specs.Prelude.{◌≡◌, ◌≤◌, ◌<◌, length, get_or};
 ghost use Rattle.run_stretch.specs.Stretches.{UpTo};
 

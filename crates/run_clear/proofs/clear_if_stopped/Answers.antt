@@ -6,6 +6,4 @@ pub returns-in_default : goal.returns-in_default
 returns-in_default c = rw c.in_default.is refl
 
 pub returns : goal.returns
-returns c =
-    let the-enum-told = c.enum_told-1 in
-    rw the-enum-told.given.1 c.clear_results.ensures
+returns c = rw c.in-Stopped.is c.clear_results.ensures

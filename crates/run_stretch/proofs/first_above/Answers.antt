@@ -1,5 +1,4 @@
 -- `first_above` meets its contract: all members passed are no greater than i.
-use Prim.Native.Nat.{◌-◌}
 use native.Mathlib.Omega.{arith}
 use borrow.Author.Rules.{rules}
 use Rattle.run_stretch.proofs.UpTo.{up_to_more}

@@ -6,15 +6,7 @@ use lib.ListN.{length}
 use Rattle.lists.proofs.Small.{Placed, placed, next_le, still_inside, index-fits}
 use Rattle.run_stretch.proofs.Crossings.{by_stretch, by_gathering, crossing_values, below_part, sum_fits, some_end, stretch_size, rest_size}
 use Rattle.run_stretch.proofs.stretch.reduce_from.Goals as goal
-use Rattle.run_stretch.proofs.stretch.reduce_from.Lts as lts
-use Rattle.run_stretch.proofs.stretch.reduce_from.Reads as reads
-use Rattle.run_stretch.proofs.stretch.reduce_from.Tie as tie
-
-abbrev Start : Type 0
-Start = lts.Start tie.the-claims reads.Pre reads.Post
-
-abbrev Then-e-own : Type 0
-Then-e-own = lts.Then1 tie.the-claims reads.Pre reads.Post
+use Rattle.run_stretch.proofs.stretch.reduce_from.Goals.{Start, Then-e-own}
 
 -- where the two lists have the last member of the stretch
 own-last : (c : Then-e-own) → Placed (length c.args.own.now) (c.args.o + length c.args.over.now)
@@ -28,22 +20,22 @@ pub overflow_add-e : goal.overflow_add-e
 overflow_add-e c = sum_fits _ _ c.requires.4 c.well_formed.1.0.1 c.well_formed.1.1.0.1
 
 pub overflow_sub-e : goal.overflow_sub-e
-overflow_sub-e c = (own-last c.before).low
+overflow_sub-e c = (own-last (goal.at.overflow_sub-e c).Then-e-own).low
 
 pub offset_bounds-own-e : goal.offset_bounds-own-e
-offset_bounds-own-e c = (own-last c.before).ranges
+offset_bounds-own-e c = (own-last (goal.at.offset_bounds-own-e c).Then-e-own).fits
 
 pub bounds-own-e : goal.bounds-own-e
-bounds-own-e c = (own-last c.before.before).inside
+bounds-own-e c = (own-last (goal.at.bounds-own-e c).Then-e-own).inside
 
 pub overflow_sub-c : goal.overflow_sub-c
-overflow_sub-c c = (over_last c.before.before.before.before.before.before.before.before).low
+overflow_sub-c c = (over_last (goal.at.overflow_sub-c c).Start).low
 
 pub offset_bounds-over-c : goal.offset_bounds-over-c
-offset_bounds-over-c c = (over_last c.before.before.before.before.before.before.before.before).fits
+offset_bounds-over-c c = (over_last (goal.at.offset_bounds-over-c c).Start).fits
 
 pub bounds-over-c : goal.bounds-over-c
-bounds-over-c c = (over_last c.before.before.before.before.before.before.before.before.before).inside
+bounds-over-c c = (over_last (goal.at.bounds-over-c c).Start).inside
 
 pub offset_bounds-y-o : goal.offset_bounds-y-o
 offset_bounds-y-o c = index-fits c.requires.4 c.well_formed.1.0.1
@@ -91,12 +83,11 @@ pub slice_bounds-reduce_gathered-end-2 : goal.slice_bounds-reduce_gathered-end-2
 slice_bounds-reduce_gathered-end-2 c = le_refl _
 
 pub reduce_gathered-requires : goal.reduce_gathered-requires
-reduce_gathered-requires c =
-    (
-      rest_size c.args.y.now c.args.own.now c.args.o c.requires.0,
-      c.requires.1,
-      below_part _ c.args.o (length c.args.own.now - c.args.o) _ c.requires.2.room,
-    )
+reduce_gathered-requires c = (
+  rest_size c.args.y.now c.args.own.now c.args.o c.requires.0,
+  c.requires.1,
+  below_part _ c.args.o (length c.args.own.now - c.args.o) _ c.requires.2.room,
+)
 
 pub returns : goal.returns
 returns c =

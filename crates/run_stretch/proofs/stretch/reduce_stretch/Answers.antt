@@ -1,13 +1,12 @@
 -- `reduce_stretch` meets its contract: the loop's invariant is `Reducing`.
 use mathlib.Core.Path.{◌∙◌}
-use mathlib.Core.Logic.{⊎_elim}
-use Prim.Native.Nat.{◌-◌}
 use lib.Ieee.{of_bits}
 use borrow.Author.Rules.{rules}
 use Rattle.foundation.proofs.FloatSteps.{reduced-zero}
 use Rattle.run_slots.proofs.Flags.{flag-set, flag_left}
 use Rattle.run_stretch.proofs.Reducing.{reducing_start, reducing_turn, reducing_end, taken_off}
 use Rattle.run_stretch.proofs.stretch.reduce_stretch.Goals as goal
+use Rattle.run_stretch.proofs.stretch.reduce_stretch.Goals.{then-new, else-new, then-u, else-u}
 
 pub loop-q-init : goal.loop-q-init
 loop-q-init c = (search rules, search rules, search rules, reducing_start _ _ _ _)
@@ -21,8 +20,8 @@ loop-q-preserved c =
       search rules,
       search rules,
       reducing_turn c.args.m _ _ _ _ _ _ r l.invariant.2 (search rules) _ _
-          (⊎_elim (λ x. x.new-is ∙ reduced-zero _ _ _ x.if-u.true) (λ x. x.new-is ∙ taken_off _ _ _ c.requires.1 x.if-u.false) c.if-u.branch-raw)
-          (⊎_elim (λ x. x.bad-is ∙ flag-set _ _ x.if-new.true) (λ x. x.bad-is ∙ flag_left _ _ x.if-new.false) c.if-new.branch-raw),
+          (elim c.if-u.branch [ then-u x ↦ x.new-is ∙ reduced-zero _ _ _ x.if-u.true | else-u x ↦ x.new-is ∙ taken_off _ _ _ c.requires.1 x.if-u.false ])
+          (elim c.if-new.branch [ then-new x ↦ x.bad-is ∙ flag-set _ _ x.if-new.true | else-new x ↦ x.bad-is ∙ flag_left _ _ x.if-new.false ]),
     )
 
 pub returns : goal.returns

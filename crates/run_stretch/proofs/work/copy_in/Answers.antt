@@ -1,6 +1,5 @@
 -- `copy_in` meets its contract.
 use mathlib.Core.Path.{◌≡◌, ◌∙◌}
-use Prim.Native.Nat.{◌-◌}
 use native.Mathlib.Omega.{arith}
 use lib.ListN.{length}
 use borrow.Author.Rules.{rules}
@@ -10,12 +9,11 @@ use Rattle.run_stretch.proofs.Laying.{copy-turn}
 use Rattle.run_stretch.proofs.work.copy_in.Goals as goal
 
 pub loop-i-preserved : goal.loop-i-preserved
-loop-i-preserved c =
-    (
-      search rules,
-      simp length-set c.loop-i.invariant.1,
-      copy-turn c.loop-i.to c.args.from.now c.loop-i.i (search rules) (search rules) c.loop-i.invariant.2,
-    )
+loop-i-preserved c = (
+  search rules,
+  simp length-set c.loop-i.invariant.1,
+  copy-turn c.loop-i.to c.args.from.now c.loop-i.i (search rules) (search rules) c.loop-i.invariant.2,
+)
 
 pub returns : goal.returns
 returns c =

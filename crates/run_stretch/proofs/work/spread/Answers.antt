@@ -1,6 +1,5 @@
 -- `spread` meets its contract: the loop's invariant is `Spreading`.
 use mathlib.Core.Path.{refl}
-use Prim.Native.Nat.{◌-◌}
 use native.Mathlib.Omega.{arith}
 use borrow.Author.Rules.{rules}
 use lib.ListN.{length-set}
