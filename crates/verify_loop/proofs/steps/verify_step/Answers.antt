@@ -42,7 +42,8 @@ returns-in_default-uppers c both = (rw c.in_default-uppers.is at c.find_upper-up
 pub returns : goal.returns
 returns c =
     let pre = c.requires in
-    let (whole, chains) = c.step_lists-lists.ensures in
+    let whole = c.step_lists-lists.ensures.lists in
+    let chains = c.step_lists-lists.ensures.chains in
     verify_on pre.step_of.0 whole chains
     (rw c.in-End.is at (c.find_lower-lowers.ensures _ (lower_at pre.step_of.0 pre.both_contain pre.ends_are) (lower_whole whole)))
     (rw c.in-End-uppers.is at c.find_upper-uppers.ensures)
