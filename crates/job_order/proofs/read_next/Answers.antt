@@ -61,14 +61,13 @@ returns-then-closed-n c =
     }
 
 pub read_after_rows-requires : goal.read_after_rows-requires
-read_after_rows-requires c =
-    (
-      within c.before.before.before.before.before.before.before.before.before.before.before.before c.if-job-at.false,
-      c.if-opened.false,
-      le_antisymm c.requires.0.rows_left c.if-closed-n.false,
-      pos_of_ne-zero c.if-n-eq0.false,
-      c.requires.2.rows-room,
-    )
+read_after_rows-requires c = (
+  within c.before.before.before.before.before.before.before.before.before.before.before.before c.if-job-at.false,
+  c.if-opened.false,
+  le_antisymm c.requires.0.rows_left c.if-closed-n.false,
+  pos_of_ne-zero c.if-n-eq0.false,
+  c.requires.2.rows-room,
+)
 
 pub returns : goal.returns
 returns c =
