@@ -1,5 +1,5 @@
 -- `put_numbers` meets its contract: before number i the first i stand, each in 21 places at most.
-use Prim.Native.Nat.{◌-◌, zero-le}
+use Prim.Native.Nat.{zero-le}
 use native.Mathlib.Nat.{le-add_right}
 use Rattle.lists.proofs.Small.{less, next_le, index-fits, next_fits}
 use Rattle.job_print.proofs.Lining.{lines_room, lines_more, lines_end, numbers_start, numbers-turn, numbers_end}

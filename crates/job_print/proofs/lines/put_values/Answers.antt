@@ -1,5 +1,5 @@
 -- `put_values` meets its contract: before row i + 1 the lines of the first i stand, each in 40 places at most.
-use Prim.Native.Nat.{◌-◌, zero-le}
+use Prim.Native.Nat.{zero-le}
 use native.Mathlib.Nat.{le-add_right}
 use Rattle.lists.proofs.Small.{less, next_le, index-fits, next_fits}
 use Rattle.job_print.proofs.Lining.{lines_room, lines_more, lines_end, values_start, values-turn, values_end}
