@@ -37,7 +37,7 @@ plan-sized n h =
     let same = front_length {A = ℕ} 0 n max_job_n h in
     let more = front_length {A = ℕ} 0 (n + 1) more_than_n (omega arith) ∙ add-one n in
     let room = length-replicate {A = ℕ} job_room 0 in
-    record { l_subs_lem = room; l_starts_lem = same; l_slots_lem = more; u_subs_lem = room; u_starts_lem = same; u_slots_lem = more }
+    record { l_subs = room; l_starts = same; l_slots = more; u_subs = room; u_starts = same; u_slots = more }
 
 -- and those of a run
 pub run_sized : (n : ℕ) (blank : Float) → n ≤ max_job_n
@@ -45,8 +45,8 @@ pub run_sized : (n : ℕ) (blank : Float) → n ≤ max_job_n
 run_sized n blank h =
     let same = front_length blank n max_job_n h in
     record {
-      l_slots_lem = length-replicate job_room blank;
-      u_slots_lem = length-replicate job_room blank;
+      l_slots = length-replicate job_room blank;
+      u_slots = length-replicate job_room blank;
       d_size = same;
       x_size = same;
       pivots_size = front_length {A = ℕ} 0 n max_job_n h;
