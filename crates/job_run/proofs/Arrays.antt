@@ -4,8 +4,6 @@ use Prim.Native.Nat.{ℕ, ◌+◌, ◌≤◌}
 use native.Mathlib.Nat.{le_of_eq, le_trans}
 use native.Mathlib.Numerals.{add-one}
 use native.Mathlib.Omega.{arith}
-use mir.Syntax.{w64}
-use mir.Val.{Fits}
 use lib.Ieee.{Float}
 use lib.ListN.{replicate, length-replicate}
 use Rattle.foundation.specs.Job.{max_job_n}
@@ -14,13 +12,6 @@ use Rattle.job_sizes.specs.Sizes.{answer_room, more_than_n}
 use Rattle.answers.specs.Stores.{plan_stores}
 use Rattle.job_run.specs.Lending.{PlanSized, RunSized}
 use Rattle.job_run.proofs.Fronts.{front, front_length}
-
--- n places and one more lie in an array of 129
-pub more_within : {n : ℕ} → n ≤ max_job_n → n + 1 ≤ more_than_n
-more_within l = omega arith
-
-pub more_fits : {n : ℕ} → n ≤ max_job_n → Fits w64 (n + 1)
-more_fits l = record { fits = omega arith }
 
 -- a store of n places is short enough to be printed
 pub at_most : {m n : ℕ} → m ≡ n → n ≤ max_job_n → m ≤ max_job_n
