@@ -1,4 +1,6 @@
 // A job's bytes to the bytes that are printed: read, planned, run, reported. Everything that the program prints is decided here.
+#![tactic(auto)]
+
 ghost use Rattle.std.specs.Prelude.{◌≡◌, length};
 ghost use Rattle.lists.specs.Functions.{padded};
 ghost use Rattle.foundation.specs.Printing.{printed};

@@ -1,5 +1,5 @@
 -- How far reading has come, by the code's numbers and stores, and what each command makes of it.
-use Rattle.std.specs.Prelude.{◌≡◌, true, List, ℕ, suc, ◌+◌, ◌*◌, ◌≤◌, ◌<◌, Float, take, drop}
+use Rattle.std.specs.Prelude.{◌≡◌, true, List, ℕ, suc, ◌*◌, ◌≤◌, ◌<◌, Float, take, drop}
 use Rattle.foundation.specs.Answer.{refused, granted}
 use Rattle.foundation.specs.Job.{Reading, Next, more, over, job_of, max_job_bytes, max_job_n}
 use Rattle.job_commands.specs.Stores.{JobStores, stores_of}

@@ -1,4 +1,6 @@
 // What each command of a job does, and how far reading has come. A function touches its own stores only, and its contract holds whatever the others are.
+#![tactic(auto)]
+
 ghost use Rattle.std.specs.Prelude.{◌≡◌, ◌+◌, ◌<◌, ◌≤◌, length, drop};
 ghost use Rattle.foundation.specs.Job.{read_n, read_r, read_e, read_b, read_p, read_z, max_job_n};
 ghost use Rattle.job_sizes.specs.Sizes.{job_entries, more_than_n};

@@ -1,4 +1,6 @@
 // Numbers in their bytes, the low byte first.
+#![tactic(auto)]
+
 ghost use Rattle.std.specs.Prelude.{◌≡◌, ◌+◌, ◌<◌, ◌≤◌, length, take, drop};
 ghost use Rattle.foundation.specs.Job.{little_endian};
 ghost use Rattle.foundation.specs.Numbers.{of_pattern};

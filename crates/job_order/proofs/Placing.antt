@@ -1,6 +1,6 @@
 -- Which command may stand where.
-use mathlib.Core.Path.{◌≡◌, refl, sym, ◌∙◌}
-use mathlib.Core.Bool.{Bool, true, false, cond, ◌&&◌, ◌||◌, and-true, and-false}
+use mathlib.Core.Path.{◌≡◌, sym, ◌∙◌}
+use mathlib.Core.Bool.{true, false, cond, ◌&&◌, ◌||◌, and-true, and-false}
 use mathlib.Core.List.{List}
 use Prim.Native.Nat.{ℕ, ◌+◌, ◌-◌, ◌≤◌, ◌<◌}
 use native.Mathlib.Nat.{le_trans}
@@ -36,7 +36,7 @@ module _ (r : Reading) (byte : ℕ) (bytes : List ℕ) where
       → command r byte bytes
       ≡ cond (eqb byte 0x50 && ltb (length r.rows) r.n) (read_p r bytes) (cond (eqb byte 0x5A && (eqb (length r.rows) 0 || eqb (length r.rows) r.n)) (read_z r bytes) misplaced)
   unfolding command
-  command-after e f g = rw (lt-ltb 0 r.n e, f, eq-eqb _ _ g) (simp (and-false, and-true))
+  command-after e f g = rw (lt-ltb 0 r.n e, f, eq-eqb _ _ g) (simp and-false)
 
 -- the next command is the byte at hand
 next_at : (r : Reading) (job : List ℕ) (at : ℕ) → at < length job → next r (drop at job) ≡ command r (get_or job at 0) (drop (at + 1) job)

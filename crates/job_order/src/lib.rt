@@ -1,4 +1,6 @@
 // Which command may stand where: N first; E and B in a row; R between rows while one is left; P and Z after all rows.
+#![tactic(auto)]
+
 ghost use Rattle.std.specs.Prelude.{◌≡◌, true, false, List, ℕ, ◌<◌, ◌≤◌, length, drop};
 ghost use Rattle.foundation.specs.Job.{next, max_job_bytes, max_job_n};
 ghost use Rattle.job_commands.specs.Stores.{JobStores, stores_of, Sized};

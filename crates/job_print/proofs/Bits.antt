@@ -2,7 +2,6 @@
 use mathlib.Core.Path.{◌≡◌, refl, sym, ◌∙◌}
 use mathlib.Core.Bool.{Bool, true, false, beq, false≢true}
 use Prim.Native.Nat.{ℕ, ◌*◌}
-use native.Mathlib.Omega.{arith}
 use lib.Ieee.{Float, nan, inf, fin, to_bits, eq, level, up, down}
 use borrow.Author.Tests.{eq-eqb}
 use Rattle.foundation.specs.Numbers.{bits_of}

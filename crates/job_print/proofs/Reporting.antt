@@ -33,7 +33,7 @@ unfolding ascii
 refused_put number step p = rw (refused_line_lem number step) at p
 
 solution_lines : (g : Going) (row count : ℕ) → value_lines row (map g.right (run row count)) ≡ chain (solution_line g) (run row count)
-unfolding value_lines run chain solution_line value_line map
+unfolding value_lines run chain solution_line value_line
 solution_lines g row zero = refl
 solution_lines g row (suc count) = rw (solution_lines g (suc row) count)
 

@@ -2,6 +2,8 @@
 //
 // Every function writes at a place, says where it ended and leaves what lies beyond as it was: the record `Appended`. A usize has at most
 // 20 digits, so a line of the solution takes at most 40 bytes, and 8,192 bytes are room for every report of 128 fields.
+#![tactic(auto)]
+
 ghost use Rattle.std.specs.Prelude.{◌≤◌, length};
 ghost use Rattle.foundation.specs.Pattern.{Lent};
 ghost use Rattle.foundation.specs.RunCall.{Ran};

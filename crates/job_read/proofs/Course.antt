@@ -7,7 +7,7 @@ use native.Mathlib.Omega.{arith}
 use lib.ListN.{length, drop, set, length-set}
 use lib.Seq.{take-suc-set}
 use borrow.Author.Tests.{lt-ltb, le-ltb}
-use Rattle.foundation.specs.Answer.{Answer, refused, granted, refuse_if}
+use Rattle.foundation.specs.Answer.{Answer, granted, refuse_if}
 use Rattle.foundation.specs.Job.{Reading, Next, more, over, Job, job_of, next, reading, nothing_read, max_job_bytes, read_job}
 use Rattle.job_commands.specs.declared.Progress.{Progress}
 use Rattle.job_commands.specs.declared.Turn.TheVariants.{More, Refused, Done}

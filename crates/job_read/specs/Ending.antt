@@ -6,7 +6,6 @@ use Rattle.job_commands.specs.Stores.{JobStores}
 use Rattle.job_commands.specs.Progress.{InBounds, state}
 use Rattle.job_commands.specs.declared.Progress.{Progress}
 use Rattle.job_read.specs.declared.Ending.{Ending}
-use Rattle.job_read.specs.declared.Ending.TheVariants as Ending
 
 -- how the commands ended, as the definition has it
 unfoldable pub ending_of : Ending → JobStores → Answer Job

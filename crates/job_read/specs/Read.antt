@@ -1,5 +1,5 @@
 -- A job in the stores: what callers see of reading.
-use Rattle.std.specs.Prelude.{ℕ, suc, ◌≤◌, take}
+use Rattle.std.specs.Prelude.{suc, ◌≤◌, take}
 use Rattle.foundation.specs.Answer.{Answer, refused, granted}
 use Rattle.foundation.specs.Job.{Job, choice_of, max_job_n}
 use Rattle.foundation.specs.Pattern.{lent_square}

@@ -2,6 +2,8 @@
 //
 // Only this crate and those below it know the grammar: `job_operands` has the numbers in their bytes, `job_commands` what each command does, `job_order` which command may
 // stand where. Callers see the sizes of what was read and the stores.
+#![tactic(auto)]
+
 ghost use Rattle.std.specs.Prelude.{◌≡◌, suc, ◌≤◌, length};
 ghost use Rattle.foundation.specs.Job.{reading, nothing_read, read_job, max_job_bytes};
 ghost use Rattle.job_commands.specs.Stores.{stores_of, Sized};

@@ -1,4 +1,6 @@
 // What is printed of a job whose text was read: the report of its run, or the line of the refusal that ended its plan or its run.
+#![tactic(auto)]
+
 ghost use Rattle.std.specs.Prelude.{◌≡◌, ◌≤◌, length};
 ghost use Rattle.foundation.specs.Answer.{Answer, and_then};
 ghost use Rattle.foundation.specs.Pattern.{Lent};

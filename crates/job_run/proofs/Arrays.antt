@@ -4,8 +4,6 @@ use Prim.Native.Nat.{ℕ, ◌+◌, ◌≤◌}
 use native.Mathlib.Nat.{le_of_eq, le_trans}
 use native.Mathlib.Numerals.{add-one}
 use native.Mathlib.Omega.{arith}
-use mir.Syntax.{w64}
-use mir.Val.{Fits}
 use lib.Ieee.{Float}
 use lib.ListN.{replicate, length-replicate}
 use Rattle.foundation.specs.Job.{max_job_n}
@@ -14,13 +12,6 @@ use Rattle.job_sizes.specs.Sizes.{answer_room, more_than_n}
 use Rattle.answers.specs.Stores.{plan_stores}
 use Rattle.job_run.specs.Lending.{PlanSized, RunSized}
 use Rattle.job_run.proofs.Fronts.{front, front_length}
-
--- n places and one more lie in an array of 129
-pub more_within : {n : ℕ} → n ≤ max_job_n → n + 1 ≤ more_than_n
-more_within l = omega arith
-
-pub more_fits : {n : ℕ} → n ≤ max_job_n → Fits w64 (n + 1)
-more_fits l = record { fits = omega arith }
 
 -- a store of n places is short enough to be printed
 pub at_most : {m n : ℕ} → m ≡ n → n ≤ max_job_n → m ≤ max_job_n
@@ -37,7 +28,7 @@ plan-sized n h =
     let same = front_length {A = ℕ} 0 n max_job_n h in
     let more = front_length {A = ℕ} 0 (n + 1) more_than_n (omega arith) ∙ add-one n in
     let room = length-replicate {A = ℕ} job_room 0 in
-    record { l_subs_lem = room; l_starts_lem = same; l_slots_lem = more; u_subs_lem = room; u_starts_lem = same; u_slots_lem = more }
+    record { l_subs = room; l_starts = same; l_slots = more; u_subs = room; u_starts = same; u_slots = more }
 
 -- and those of a run
 pub run_sized : (n : ℕ) (blank : Float) → n ≤ max_job_n
@@ -45,8 +36,8 @@ pub run_sized : (n : ℕ) (blank : Float) → n ≤ max_job_n
 run_sized n blank h =
     let same = front_length blank n max_job_n h in
     record {
-      l_slots_lem = length-replicate job_room blank;
-      u_slots_lem = length-replicate job_room blank;
+      l_slots = length-replicate job_room blank;
+      u_slots = length-replicate job_room blank;
       d_size = same;
       x_size = same;
       pivots_size = front_length {A = ℕ} 0 n max_job_n h;

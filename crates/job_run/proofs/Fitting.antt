@@ -39,19 +39,19 @@ module _ (p : Lent) where
     unfolding sizes_fit
     our_sizes work fits =
         rw (
-          side-fits stores.lower_side sized.l_starts_lem sized.l_slots_lem,
-          side-fits stores.upper_side sized.u_starts_lem sized.u_slots_lem,
+          side-fits stores.lower_side sized.l_starts sized.l_slots,
+          side-fits stores.upper_side sized.u_starts sized.u_slots,
           fits,
         )
 
     planned_here : (work : WorkSizes) → work_fits p work ≡ true → planned max_job_n p stores work ≡ job_plan p
     unfolding job_plan planned blank_stores
-    planned_here work fits = simp (our_sizes work fits, blank_sizes, sized.l_subs_lem, sized.u_subs_lem, blank_room)
+    planned_here work fits = simp (our_sizes work fits, blank_sizes, sized.l_subs, sized.u_subs, blank_room)
 
     leaves_blank : (a : Answer Planning) → plan_leaves p a stores ≡ plan_leaves p a (blank_stores p.n job_room job_room)
     unfolding plan_leaves side_after subscripts_after starts_after slot_starts_after blank_stores blank_side
     leaves_blank a =
-        simp (sized.l_subs_lem, sized.l_starts_lem, sized.l_slots_lem, sized.u_subs_lem, sized.u_starts_lem, sized.u_slots_lem, length-replicate)
+        simp (sized.l_subs, sized.l_starts, sized.l_slots, sized.u_subs, sized.u_starts, sized.u_slots, length-replicate)
 
     plan-done : (r : PlanAnswer) (stores' : PlanStores) (work work' : WorkStores) → work_fits p (work_sizes work) ≡ true
         → PlanKept r max_job_n p stores stores' work work' → JobPlanned r p stores'

@@ -28,7 +28,7 @@ held_fitting may most p q work fits = simp (fits, fitting-fits p)
 lending_is : (p : Lent) (values right l u d x : List Float) (pivots : List ℕ) → RunSized p.n l u d x pivots
     → lending_of values right l u d x pivots ≡ lent_for p values right
 unfolding lent_for
-lending_is p values right l u d x pivots z = rw (z.l_slots_lem, z.u_slots_lem, z.d_size, z.x_size, z.pivots_size)
+lending_is p values right l u d x pivots z = rw (z.l_slots, z.u_slots, z.d_size, z.x_size, z.pivots_size)
 
 ran_here : (p : Lent) (q : LentPlan) (work : WorkSizes) (choice : Choice) (values right l u d x : List Float) (pivots : List ℕ) → work_fits p work ≡ true
     → RunSized p.n l u d x pivots → ran max_job_n p q work choice (extent_of Whole) (lending_of values right l u d x pivots) ≡ job_ran p q choice values right

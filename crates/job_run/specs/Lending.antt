@@ -15,12 +15,12 @@ use Rattle.answers.specs.declared.RunAnswer.{RunAnswer}
 
 -- the stores of a plan have their lengths, with the job's room for subscripts
 pub record PlanSized (n : ℕ) (stores : PlanStores) : Type 0 where
-  pub l_subs_lem : length stores.lower_side.subs ≡ job_room
-  pub l_starts_lem : length stores.lower_side.starts ≡ n
-  pub l_slots_lem : length stores.lower_side.slot_starts ≡ suc n
-  pub u_subs_lem : length stores.upper_side.subs ≡ job_room
-  pub u_starts_lem : length stores.upper_side.starts ≡ n
-  pub u_slots_lem : length stores.upper_side.slot_starts ≡ suc n
+  pub l_subs : length stores.lower_side.subs ≡ job_room
+  pub l_starts : length stores.lower_side.starts ≡ n
+  pub l_slots : length stores.lower_side.slot_starts ≡ suc n
+  pub u_subs : length stores.upper_side.subs ≡ job_room
+  pub u_starts : length stores.upper_side.starts ≡ n
+  pub u_slots : length stores.upper_side.slot_starts ≡ suc n
 
 -- The plan that `job_run` makes of a pattern: "n at most 128", 2,048 subscripts a side.
 unfoldable pub job_plan : Lent → Answer Planning
@@ -33,8 +33,8 @@ pub record JobPlanned (r : PlanAnswer) (p : Lent) (stores : PlanStores) : Type 0
 
 -- the result stores of a run have their lengths
 pub record RunSized (n : ℕ) (l u d x : List Float) (pivots : List ℕ) : Type 0 where
-  pub l_slots_lem : length l ≡ job_room
-  pub u_slots_lem : length u ≡ job_room
+  pub l_slots : length l ≡ job_room
+  pub u_slots : length u ≡ job_room
   pub d_size : length d ≡ n
   pub x_size : length x ≡ n
   pub pivots_size : length pivots ≡ n

@@ -1,5 +1,7 @@
 // A job's plan and its run, in stores of their own, and what is printed of them. Here the work stores: six for the plan, two more for
 // the run, each lent as far as n asks.
+#![tactic(auto)]
+
 ghost use Rattle.std.specs.Prelude.{◌≡◌, ◌≤◌};
 ghost use Rattle.foundation.specs.Job.{choice_of, max_job_n};
 ghost use Rattle.foundation.specs.Pattern.{lent_square};

@@ -1,4 +1,5 @@
 // The sizes of a job: what the program takes, what it lends, and the room that every job's stores and answer have. Each number stands here once.
+#![tactic(auto)]
 
 // Document 01, "Job": "at most 16,384 bytes".
 pub const JOB_BYTES: usize = 16_384;

@@ -1,21 +1,16 @@
 -- `read_next` meets its contract.
-use Prim.Native.Nat.{◌<◌}
+use Prim.Native.Nat.{ℕ, ◌≤◌, ◌<◌}
 use native.Mathlib.Nat.{le_antisymm, pos_of_ne-zero}
-use lib.ListN.{length}
-use Rattle.job_commands.specs.Progress.{ByteLeft, Onward}
+use Rattle.foundation.specs.Job.{max_job_bytes}
+use Rattle.job_commands.specs.declared.Progress.{Progress}
+use Rattle.job_commands.specs.Progress.{InBounds, ByteLeft, Onward}
 use Rattle.job_commands.specs.Stores.{stores_of}
 use Rattle.job_order.proofs.Placing.{at_end, closed-room}
 use Rattle.job_order.proofs.read_next.Goals as goal
-use Rattle.job_order.proofs.read_next.Lts as lts
-use Rattle.job_order.proofs.read_next.Reads as reads
-use Rattle.job_order.proofs.read_next.Tie as tie
-
-abbrev Start : Type 0
-Start = lts.Start tie.the-claims reads.Pre reads.Post tie.handed_clauses
 
 -- a byte is left
-within : (s : Start) → s.args.p.at < length s.args.job.now → ByteLeft (length s.args.job.now) s.args.p
-within s left = record { sound = s.requires.0; byte_left = left; short = s.requires.1 }
+within : {size : ℕ} {p : Progress} → InBounds size p → size ≤ max_job_bytes → p.at < size → ByteLeft size p
+within sound short left = record { sound = sound; byte_left = left; short = short }
 
 pub returns-then-job-at : goal.returns-then-job-at
 unfolding Onward
@@ -27,7 +22,7 @@ returns-then-job-at c =
     }
 
 pub read_first-requires : goal.read_first-requires
-read_first-requires c = (within c.before.before.before.before.before.before.before.before.before c.if-job-at.false, c.if-n-eq0.true)
+read_first-requires c = (within c.requires.0 c.requires.1 c.if-job-at.false, c.if-n-eq0.true)
 
 pub returns-then-n-eq0 : goal.returns-then-n-eq0
 returns-then-n-eq0 c =
@@ -37,8 +32,7 @@ returns-then-n-eq0 c =
     }
 
 pub read_in_row-requires : goal.read_in_row-requires
-read_in_row-requires c =
-    (within c.before.before.before.before.before.before.before.before.before.before.before.before.before.before c.if-job-at.false, c.if-opened.true, (c.args.rows.now, c.requires.2))
+read_in_row-requires c = (within c.requires.0 c.requires.1 c.if-job-at.false, c.if-opened.true, (c.args.rows.now, c.requires.2))
 
 pub returns-then-opened : goal.returns-then-opened
 returns-then-opened c =
@@ -48,8 +42,7 @@ returns-then-opened c =
     }
 
 pub read_between_rows-requires : goal.read_between_rows-requires
-read_between_rows-requires c =
-    (within c.before.before.before.before.before.before.before.before.before.before.before c.if-job-at.false, c.if-opened.false, c.if-closed-n.true)
+read_between_rows-requires c = (within c.requires.0 c.requires.1 c.if-job-at.false, c.if-opened.false, c.if-closed-n.true)
 
 pub returns-then-closed-n : goal.returns-then-closed-n
 returns-then-closed-n c =
@@ -61,14 +54,13 @@ returns-then-closed-n c =
     }
 
 pub read_after_rows-requires : goal.read_after_rows-requires
-read_after_rows-requires c =
-    (
-      within c.before.before.before.before.before.before.before.before.before.before.before.before c.if-job-at.false,
-      c.if-opened.false,
-      le_antisymm c.requires.0.rows_left c.if-closed-n.false,
-      pos_of_ne-zero c.if-n-eq0.false,
-      c.requires.2.rows-room,
-    )
+read_after_rows-requires c = (
+  within c.requires.0 c.requires.1 c.if-job-at.false,
+  c.if-opened.false,
+  le_antisymm c.requires.0.rows_left c.if-closed-n.false,
+  pos_of_ne-zero c.if-n-eq0.false,
+  c.requires.2.rows-room,
+)
 
 pub returns : goal.returns
 returns c =

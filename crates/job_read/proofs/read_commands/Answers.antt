@@ -1,6 +1,5 @@
 -- `read_commands` meets its contract: between two commands reading what is left gives the answer of the whole job, and the bytes left are the measure.
 use mathlib.Core.Path.{refl, ◌∙◌}
-use Prim.Native.Nat.{◌-◌}
 use lib.ListN.{length}
 use Rattle.job_commands.specs.Progress.{Onward}
 use Rattle.job_read.specs.Ending.{Ended}
@@ -26,24 +25,22 @@ read_next-turn-requires c =
     (l.invariant.0.bounds, c.requires.0, still_sized _ _ l.invariant.1 (still_sized _ s (start_written s) c.requires.1))
 
 pub loop-q-smaller : goal.loop-q-smaller
-loop-q-smaller c =
-    let t = c.turn-1.given in
-    loop_falls (length c.args.job.now) c.loop-q.p.at _ (rw t.1 at c.read_next-turn.ensures.onward)
+loop-q-smaller c = loop_falls (length c.args.job.now) c.loop-q.p.at _ c.in-More.ensures.onward
 
 pub loop-q-preserved : goal.loop-q-preserved
 loop-q-preserved c =
     let l = c.loop-q in
-    let n = c.read_next-turn in
-    let t = c.turn-1.given in (
+    let n = c.read_next-turn.new in
+    let k = c.read_next-turn.auto in
+    let e = c.in-More.ensures in (
       loop_more c.args.job.now (stores_of l.starts l.columns l.values l.right l.rows) l.p l.invariant.0 _
-          (stores_of n.new.1.1.0 n.new.1.1.1.0 n.new.1.1.1.1.0 n.new.1.1.1.1.1.0 n.new.1.1.1.1.1.1.0)
-          (rw t.1 at n.ensures.0) (rw t.1 at n.ensures.1),
+          (stores_of n.starts n.columns n.values n.right n.rows) e.rows_after e.onward,
       record {
-        same_starts = n.auto.1.1.0 ∙ l.invariant.1.same_starts;
-        same_columns = n.auto.1.1.1.0 ∙ l.invariant.1.same_columns;
-        same_values = n.auto.1.1.1.1.0 ∙ l.invariant.1.same_values;
-        same_right = n.auto.1.1.1.1.1.0 ∙ l.invariant.1.same_right;
-        same_rows = n.auto.1.1.1.1.1.1.0 ∙ l.invariant.1.same_rows;
+        same_starts = k.starts ∙ l.invariant.1.same_starts;
+        same_columns = k.columns ∙ l.invariant.1.same_columns;
+        same_values = k.values ∙ l.invariant.1.same_values;
+        same_right = k.right ∙ l.invariant.1.same_right;
+        same_rows = k.rows ∙ l.invariant.1.same_rows;
       },
     )
 
@@ -51,11 +48,9 @@ pub returns-in-Refused : goal.returns-in-Refused
 unfolding Ended
 returns-in-Refused c =
     let l = c.loop-q in
-    let n = c.read_next-turn in
-    let t = c.turn-in-Refused-1.given in record {
+    let n = c.read_next-turn.new in record {
       rows_after = loop_refused c.args.job.now (stores_of l.starts l.columns l.values l.right l.rows) l.p l.invariant.0 _
-          (stores_of n.new.1.1.0 n.new.1.1.1.0 n.new.1.1.1.1.0 n.new.1.1.1.1.1.0 n.new.1.1.1.1.1.1.0)
-          (rw t.1 at n.ensures.0);
+          (stores_of n.starts n.columns n.values n.right n.rows) c.in-Refused.ensures.rows_after;
       ended = tt;
     }
 
@@ -63,10 +58,9 @@ pub returns-in-Done : goal.returns-in-Done
 unfolding Ended Onward
 returns-in-Done c =
     let l = c.loop-q in
-    let n = c.read_next-turn in
-    let t = c.turn-in-Done-1.given in record {
+    let n = c.read_next-turn.new in
+    let e = c.in-Done.ensures in record {
       rows_after = loop_read c.args.job.now (stores_of l.starts l.columns l.values l.right l.rows) l.p l.invariant.0 _
-          (stores_of n.new.1.1.0 n.new.1.1.1.0 n.new.1.1.1.1.0 n.new.1.1.1.1.1.0 n.new.1.1.1.1.1.1.0)
-          (rw t.1 at n.ensures.0);
-      ended = rw t.1 at n.ensures.1;
+          (stores_of n.starts n.columns n.values n.right n.rows) e.rows_after;
+      ended = e.onward;
     }

@@ -19,19 +19,17 @@ read_commands-ending-requires c = (c.if-job-gt-JOB_BYTES.false, c.requires)
 pub returns-in-Refused : goal.returns-in-Refused
 unfolding Bounded
 returns-in-Refused c =
-    let n = c.read_commands-ending in
-    let t = c.ending-1.given in record {
-      answer = refused-whole c.args.job.now (stores_of n.new.1.0 n.new.1.1.0 n.new.1.1.1.0 n.new.1.1.1.1.0
-          n.new.1.1.1.1.1.0) _ c.if-job-gt-JOB_BYTES.false (rw t.1 at n.ensures.0);
+    let n = c.read_commands-ending.new in record {
+      answer = refused-whole c.args.job.now (stores_of n.starts n.columns n.values n.right n.rows) _ c.if-job-gt-JOB_BYTES.false
+          c.in-Refused.ensures.rows_after;
       sizes = tt;
     }
 
 pub returns-in-Read : goal.returns-in-Read
 returns-in-Read c =
-    let n = c.read_commands-ending in
-    let t = c.ending-in-Read-1.given in
-    let e = rw t.1 at n.ensures.1 in record {
-      answer = read_whole c.args.job.now (stores_of n.new.1.0 n.new.1.1.0 n.new.1.1.1.0 n.new.1.1.1.1.0
-          n.new.1.1.1.1.1.0) _ c.if-job-gt-JOB_BYTES.false e (rw t.1 at n.ensures.0);
-      sizes = read-bounded _ _ c.if-job-gt-JOB_BYTES.false e;
+    let n = c.read_commands-ending.new in
+    let e = c.in-Read.ensures in record {
+      answer = read_whole c.args.job.now (stores_of n.starts n.columns n.values n.right n.rows) _ c.if-job-gt-JOB_BYTES.false e.ended
+          e.rows_after;
+      sizes = read-bounded _ _ c.if-job-gt-JOB_BYTES.false e.ended;
     }

@@ -1,6 +1,5 @@
 -- `put_word` meets its contract: before byte i the first i bytes of the word stand.
 use borrow.Author.Rules.{rules}
-use Prim.Native.Nat.{◌-◌}
 use Rattle.job_print.proofs.Appending.{word_start, word_turn, word_end}
 use Rattle.job_print.proofs.digits.put_word.Goals as goal
 

@@ -1,7 +1,7 @@
 -- `put_numbers` meets its contract: before number i the first i stand, each in 21 places at most.
-use Prim.Native.Nat.{◌-◌, zero-le}
+use Prim.Native.Nat.{zero-le}
 use native.Mathlib.Nat.{le-add_right}
-use Rattle.lists.proofs.Small.{less, next_le, index-fits, next_fits}
+use Rattle.lists.proofs.Small.{next_le}
 use Rattle.job_print.proofs.Lining.{lines_room, lines_more, lines_end, numbers_start, numbers-turn, numbers_end}
 use Rattle.job_print.proofs.lines.put_numbers.Goals as goal
 
@@ -10,22 +10,10 @@ loop-i-init c =
     let a = c.args in
     (zero-le, le-add_right _ _, numbers_start a.out.now a.numbers.now a.at)
 
-pub offset_bounds-numbers-i : goal.offset_bounds-numbers-i
-offset_bounds-numbers-i c = index-fits c.loop-i-test.true c.well_formed.1.1.0.1
-
-pub bounds-numbers-i : goal.bounds-numbers-i
-bounds-numbers-i c = c.loop-i-test.true
-
 pub put_spaced-end-requires : goal.put_spaced-end-requires
 put_spaced-end-requires c =
     let l = c.loop-i in
     lines_room 21 _ l.i _ l.invariant.1 c.loop-i-test.true c.requires l.invariant.2.size
-
-pub overflow_add-i : goal.overflow_add-i
-overflow_add-i c = next_fits c.loop-i-test.true c.well_formed.1.1.0.1
-
-pub loop-i-smaller : goal.loop-i-smaller
-loop-i-smaller c = less _ _ c.loop-i-test.true
 
 pub loop-i-preserved : goal.loop-i-preserved
 loop-i-preserved c =

@@ -1,7 +1,7 @@
 -- `put_values` meets its contract: before row i + 1 the lines of the first i stand, each in 40 places at most.
-use Prim.Native.Nat.{◌-◌, zero-le}
+use Prim.Native.Nat.{zero-le}
 use native.Mathlib.Nat.{le-add_right}
-use Rattle.lists.proofs.Small.{less, next_le, index-fits, next_fits}
+use Rattle.lists.proofs.Small.{next_le}
 use Rattle.job_print.proofs.Lining.{lines_room, lines_more, lines_end, values_start, values-turn, values_end}
 use Rattle.job_print.proofs.lines.put_values.Goals as goal
 
@@ -10,22 +10,10 @@ loop-i-init c =
     let a = c.args in
     (zero-le, le-add_right _ _, values_start a.out.now a.values.now a.at)
 
-pub offset_bounds-values-i : goal.offset_bounds-values-i
-offset_bounds-values-i c = index-fits c.loop-i-test.true c.well_formed.1.1.0.1
-
-pub bounds-values-i : goal.bounds-values-i
-bounds-values-i c = c.loop-i-test.true
-
 pub put_value-end-requires : goal.put_value-end-requires
 put_value-end-requires c =
     let l = c.loop-i in
     lines_room 40 _ l.i _ l.invariant.1 c.loop-i-test.true c.requires l.invariant.2.size
-
-pub overflow_add-i-in-loop-i : goal.overflow_add-i-in-loop-i
-overflow_add-i-in-loop-i c = next_fits c.loop-i-test.true c.well_formed.1.1.0.1
-
-pub loop-i-smaller : goal.loop-i-smaller
-loop-i-smaller c = less _ _ c.loop-i-test.true
 
 pub loop-i-preserved : goal.loop-i-preserved
 loop-i-preserved c =
