@@ -1,4 +1,6 @@
 // What is judged before any draw of a test load: document 02, Ticket 6. It judges numbers alone, n, d and the places of the stores.
+#![tactic(auto)]
+
 ghost use Rattle.std.specs.Prelude.{◌≡◌, ◌≤◌};
 ghost use Rattle.foundation.specs.LoadCall.{load_sizes, load_sizes_fit, judged_load};
 ghost use Rattle.answers.specs.Loads.{load_answer_of};

@@ -1,4 +1,6 @@
 // The whole milliarcsecond that an f64 goes to.
+#![tactic(auto)]
+
 ghost use Rattle.std.specs.Prelude.{◌≡◌, ◌≤◌};
 ghost use Rattle.foundation.specs.Offset.{largest_offset};
 ghost use Rattle.foundation.specs.OffsetRounding.{rounded_to};

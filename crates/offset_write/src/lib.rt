@@ -1,4 +1,6 @@
 // The text of an offset.
+#![tactic(auto)]
+
 ghost use Rattle.std.specs.Prelude.{◌≡◌, ◌+◌, ◌<◌, ◌≤◌};
 ghost use Rattle.foundation.specs.Offset.{largest_offset, sign_byte, text_with};
 

@@ -5,15 +5,8 @@ use Rattle.offset_write.proofs.text_with.Goals as goal
 pub returns : goal.returns
 unfolding text_with three_digits two_digits
 returns c =
-    let at-digit7 = c.before.before.before.before in
-    let at-digit6 = at-digit7.before in
-    let at-digit5 = at-digit6.before in
-    let at-digit4 = at-digit5.before in
-    let at-digit3 = at-digit4.before in
-    let at-digit2 = at-digit3.before in
-    let at-digit = at-digit2.before in
     rw (
-      at-digit.sign.ensures,
+      c.sign.ensures,
       c.digit_byte.ensures,
       c.digit_byte-2.ensures,
       c.digit_byte-3.ensures,
