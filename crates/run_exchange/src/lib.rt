@@ -1,4 +1,6 @@
 // The exchange of rows in the slots: `exchange` brings a step's pivot row to row k.
+#![tactic(auto)]
+
 ghost use Rattle.answers.specs.Stores.{plan_stores, side_stores};
 ghost use Rattle.run_slots.specs.Shows.{square_stores};
 ghost use Rattle.run_exchange.specs.Behind.{BehindAsks, BehindLeaves};

@@ -1,4 +1,6 @@
 // The pivot row of a step, the largest or a listed one, by the slots of column k alone.
+#![tactic(auto)]
+
 ghost use Rattle.run_pivot.specs.Pivot.{PivotAsks, PivotLeaves};
 
 mod choosing;

@@ -1,4 +1,6 @@
 // What a caller asks of a run besides its numbers: whose rows are chosen, and how far the run goes.
+#![tactic(auto)]
+
 ghost use Rattle.std.specs.Prelude.{◌≡◌, ◌≤◌, length};
 ghost use Rattle.foundation.specs.Reference.{steps_of};
 ghost use Rattle.run_slots.specs.Handing.{asked};

@@ -1,24 +1,22 @@
 -- The exchange of a step stays in the slots.
-use mathlib.Core.Bool.{Bool, true, false, cond, not, true≢false, false≢true}
-use mathlib.Core.List.{List, [], ◌∷◌, ◌++◌, map}
-use mathlib.Core.Logic.{⊎_elim}
+use mathlib.Core.Bool.{true, false, not, true≢false, false≢true}
 use mathlib.Core.Path.{◌≡◌, refl, sym, ap, ◌∙◌}
-use Prim.Native.Nat.{ℕ, zero, suc, ◌+◌, ◌-◌, ◌≤◌, ◌<◌}
+use Prim.Native.Nat.{ℕ, suc, ◌≤◌, ◌<◌}
 use native.Mathlib.Decide.{dec_lt}
 use native.Mathlib.Omega.{arith}
-use lib.Dec.{eqb, ltb}
-use lib.Ieee.{Float, nan}
+use lib.Dec.{eqb}
+use lib.Ieee.{Float}
 use borrow.Author.Tests.{eqb-true, eqb-false, eq-eqb, ne_eqb, lt-ltb, le-ltb, le-leb}
 use Rattle.lists.specs.Functions.{keep}
-use Rattle.lists.specs.Sets.{member, Ascending}
-use Rattle.lists.proofs.Members.{by_test, fails, kept_in}
+use Rattle.lists.specs.Sets.{member}
+use Rattle.lists.proofs.Members.{by_test, fails}
 use Rattle.lists.proofs.Order.{member-low, ascending-keep, ascending_raise}
 use Rattle.foundation.specs.Facts.{PlanFacts}
 use Rattle.foundation.specs.Closed.{Closed, Held, marked}
-use Rattle.foundation.specs.Numbers.{plus_zero, is_zero, finite, may_pivot, is_plus_zero}
+use Rattle.foundation.specs.Numbers.{plus_zero, may_pivot, is_plus_zero}
 use Rattle.foundation.specs.Pattern.{Pattern}
 use Rattle.foundation.specs.Plan.{Planning, Side, lower, upper, list}
-use Rattle.foundation.specs.Reference.{multiplier, eliminated, Going, stepped}
+use Rattle.foundation.specs.Reference.{eliminated, Going, stepped}
 use Rattle.foundation.specs.Slots.{slot_in, has_slot}
 use Rattle.foundation.specs.Square.{Square, swap, exchanged}
 use Rattle.foundation.specs.Subscripts.{kept}
@@ -27,7 +25,7 @@ use Rattle.foundation.proofs.FloatSteps.{plus_zero_is, eliminated-above, pivot_n
 use Rattle.foundation.proofs.LaidBack.{kept_listed, kept_other, listed_kept}
 use Rattle.foundation.proofs.FreeSteps.{exchanged_left, exchanged_other}
 use Rattle.run_slots.specs.Index.{limit, Grid}
-use Rattle.run_slots.proofs.Grid.{slot_upper, slot_lower, no_slot_upper, no_slot_lower}
+use Rattle.run_slots.proofs.Grid.{no_slot_upper, no_slot_lower}
 
 -- the plan of a pattern as the steps need it
 pub grid-from : (p : Pattern) (s : Planning) → PlanFacts p s → Grid s p.n p.height

@@ -1,7 +1,7 @@
 -- Laws of f64: what is not finite shows, and a product's order does not.
 use mathlib.Core.Bool.{Bool, true, false, not, beq, and-false}
 use mathlib.Core.Path.{◌≡◌, refl, sym, ap}
-use Prim.Native.Nat.{ℕ, zero, ◌*◌, ◌<◌}
+use Prim.Native.Nat.{ℕ, ◌*◌, ◌<◌}
 use native.Mathlib.Nat.{mul_comm, zero-mul, sub_self, mul-pos}
 use native.Mathlib.Omega.{arith}
 use lib.IntN.{pos}

@@ -1,28 +1,23 @@
 -- The slots of a plan: where a place has one, and what a step leaves alone.
-use mathlib.Core.Bool.{true, false, cond, ◌&&◌, ◌||◌, true≢false, false≢true, or_comm}
-use mathlib.Core.List.{List, [], ◌∷◌, ◌++◌, map}
+use mathlib.Core.Bool.{true, false, ◌||◌, true≢false, false≢true, or_comm}
 use mathlib.Core.Logic.{⊎_elim}
-use mathlib.Core.Path.{◌≡◌, sym, ap, ◌∙◌}
-use Prim.Native.Nat.{ℕ, zero, suc, ◌+◌, ◌-◌, ◌≤◌, ◌<◌}
+use mathlib.Core.Path.{◌≡◌, sym, ◌∙◌}
+use Prim.Native.Nat.{ℕ, suc, ◌<◌}
 use native.Mathlib.Decide.{dec_lt}
 use native.Mathlib.Omega.{arith}
-use lib.Dec.{eqb, ltb}
-use lib.Ieee.{Float, nan}
-use lib.ListN.{length, take, drop, get_or, length-map}
-use borrow.Author.Tests.{eqb-true, eqb-false, eq-eqb, ne_eqb, lt-ltb, le-ltb, ltb-true}
-use Rattle.lists.specs.Sets.{member, Ascending}
-use Rattle.lists.proofs.Members.{by_test, fails, and_left, and_right, or_true_cases}
-use Rattle.lists.proofs.Order.{member-low, ascending_weaken}
-use Rattle.lists.proofs.Places.{member_at}
-use Rattle.foundation.specs.Numbers.{plus_zero, is_zero, finite}
+use lib.Ieee.{Float}
+use borrow.Author.Tests.{ne_eqb, lt-ltb, le-ltb}
+use Rattle.lists.specs.Sets.{member}
+use Rattle.lists.proofs.Members.{fails, or_true_cases}
+use Rattle.lists.proofs.Order.{member-low}
+use Rattle.foundation.specs.Numbers.{is_zero}
 use Rattle.foundation.specs.Plan.{Planning, Side, lower, upper, list}
 use Rattle.foundation.specs.Subscripts.{kept}
 use Rattle.foundation.specs.Slots.{slot_in, has_slot}
 use Rattle.foundation.specs.Square.{Square}
-use Rattle.foundation.specs.Shown.{at_side}
-use Rattle.foundation.specs.Reference.{multiplier, reduced, eliminated}
-use Rattle.foundation.proofs.FloatSteps.{zero_plus_zero, multiplier-zero, reduced_left, reduced_right, eliminated-above, eliminated_left, eliminated_column, eliminated_right_lem, eliminated-zero}
-use Rattle.foundation.proofs.LaidBack.{kept_listed, listed_kept}
+use Rattle.foundation.specs.Reference.{reduced, eliminated}
+use Rattle.foundation.proofs.FloatSteps.{zero_plus_zero, reduced_right, eliminated-above, eliminated_right_lem, eliminated-zero}
+use Rattle.foundation.proofs.LaidBack.{listed_kept}
 use Rattle.run_slots.specs.Index.{Grid}
 use Rattle.run_slots.specs.Shows.{InSlots}
 use Rattle.run_slots.proofs.Floats.{product_commutes}

@@ -1,7 +1,7 @@
 -- Where a list lies: list k of a side, by the four numbers that `store_place::list_place` reads from the side's index stores. Its subscripts are
 -- those from `from` to before `to`, its slots those from `slot` to before `next`.
 use mathlib.Core.List.{List, ◌++◌, map}
-use mathlib.Core.Path.{◌≡◌, sym, ◌∙◌}
+use mathlib.Core.Path.{◌≡◌, ◌∙◌}
 use Prim.Native.Nat.{ℕ, ◌+◌, ◌-◌, ◌*◌, ◌^◌, ◌≤◌, ◌<◌}
 use native.Mathlib.Omega.{arith}
 use mir.Syntax.{w64}

@@ -1,5 +1,5 @@
 -- Laws on lists that the elimination leans on: values mapped over a list of subscripts, read, written and cut.
-use mathlib.Core.Bool.{Bool, true, false, ◌&&◌}
+use mathlib.Core.Bool.{Bool, true}
 use mathlib.Core.List.{List, [], ◌∷◌, ◌++◌, map, append_assoc}
 use mathlib.Core.Logic.{⊎_elim}
 use mathlib.Core.Path.{◌≡◌, refl, sym, ap, ◌∙◌}
@@ -11,7 +11,7 @@ use lib.ListN.{length, take, drop, get_or, set}
 use lib.Seq.{take_at, drop_at, drop-drop}
 use Rattle.lists.specs.Functions.{all, chain}
 use Rattle.lists.specs.Sets.{member, upto, Ascending}
-use Rattle.lists.proofs.Members.{by_test, and_left, and_right, member_head, member_tail, member_cases, not-member-nil, member-append, or_true_cases}
+use Rattle.lists.proofs.Members.{and_left, and_right, member_head, member_tail, member_cases, not-member-nil, member-append, or_true_cases}
 use Rattle.lists.proofs.Order.{member-low, ascending-upto}
 use Rattle.lists.proofs.Places.{upto_snoc, member_at, upto_at, length-upto}
 

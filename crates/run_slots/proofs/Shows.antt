@@ -1,29 +1,26 @@
 -- Reading and writing the slots of a list.
 use mathlib.Core.Bool.{true}
-use mathlib.Core.List.{List, [], ◌∷◌, ◌++◌, map, append_assoc}
+use mathlib.Core.List.{List, ◌∷◌, ◌++◌, map, append_assoc}
 use mathlib.Core.Path.{◌≡◌, refl, sym, ap, ◌∙◌}
-use mathlib.Core.Logic.{⊎_elim}
 use Prim.Native.Nat.{ℕ, zero, suc, ◌+◌, ◌-◌, ◌≤◌, ◌<◌}
-use native.Mathlib.Decide.{dec_lt}
 use native.Mathlib.Nat.{add-zero, add-suc}
 use native.Mathlib.Omega.{arith}
 use lib.Ieee.{Float, nan}
-use lib.ListN.{length, take, drop, get_or, set, replicate, length-append, length-map, length-take, length-drop, get_or-append}
-use lib.Seq.{take_at, drop_at, take_all, take-append_seam, get_or-append-add, set-append_left, drop-drop, get_or-take, get_or-drop}
+use lib.ListN.{length, take, drop, get_or, set, replicate, length-map}
+use lib.Seq.{take_at, drop_at, drop-drop, get_or-take, get_or-drop}
 use borrow.Rule.Slice.PartMut.{set_mid_at}
-use Rattle.lists.proofs.Order.{member-low}
 use Rattle.run_slots.proofs.Mapped.{map_cong, chain_cong, upto-split, set-map, replaced}
 use Rattle.lists.specs.Functions.{chain, padded}
 use Rattle.lists.specs.Sets.{member, upto, Ascending}
-use Rattle.lists.proofs.Members.{member_head, member_tail, member_cases, not-member-nil, member-append, or_true_cases, upto-low, upto-high}
-use Rattle.lists.proofs.Places.{upto_snoc, chain-append, length-padded, member_at, get_or_mapped}
+use Rattle.lists.proofs.Members.{upto-low, upto-high}
+use Rattle.lists.proofs.Places.{chain-append, length-padded, get_or_mapped}
 use Rattle.foundation.specs.Numbers.{plus_zero}
-use Rattle.foundation.specs.Plan.{Planning, Side, lower, upper}
+use Rattle.foundation.specs.Plan.{Planning, Side}
 use Rattle.foundation.specs.Subscripts.{kept}
 use Rattle.foundation.specs.Slots.{slots_of}
 use Rattle.foundation.specs.Square.{Square}
-use Rattle.foundation.specs.Shown.{at_side, shown, shown_diagonal}
-use Rattle.foundation.proofs.LaidBack.{slots-shown, shown_next}
+use Rattle.foundation.specs.Shown.{at_side, shown}
+use Rattle.foundation.proofs.LaidBack.{slots-shown}
 use Rattle.run_slots.specs.Shows.{Shows}
 
 -- ---- one list's slots

@@ -1,30 +1,27 @@
 -- A step is sound exactly where what it leaves is finite; its updates are a product of two counts.
-use mathlib.Core.Bool.{Bool, true, false, cond, not, ◌&&◌, ◌||◌, true≢false, false≢true, and-false}
-use mathlib.Core.List.{List, [], ◌∷◌, ◌++◌, map}
-use mathlib.Core.Logic.{⊎_elim}
+use mathlib.Core.Bool.{Bool, true, false, cond, ◌&&◌, and-false}
+use mathlib.Core.List.{List, [], ◌∷◌, map}
 use mathlib.Core.Path.{◌≡◌, refl, sym, ap, ◌∙◌}
-use Prim.Native.Nat.{ℕ, zero, suc, ◌+◌, ◌-◌, ◌*◌, ◌≤◌, ◌<◌}
+use Prim.Native.Nat.{ℕ, suc, ◌+◌, ◌*◌, ◌≤◌, ◌<◌}
 use native.Mathlib.Decide.{dec_lt}
 use native.Mathlib.Nat.{zero-mul, suc-mul}
 use native.Mathlib.Omega.{arith}
-use lib.Dec.{eqb, ltb, leb}
-use lib.Ieee.{Float, nan}
-use lib.ListN.{length, take, drop, get_or, length-map}
-use borrow.Author.Tests.{eqb-true, eqb-false, eq-eqb, ne_eqb, lt-ltb, le-ltb, ltb-true, le-leb, leb-true}
+use lib.Dec.{ltb, leb}
+use lib.Ieee.{Float}
+use borrow.Author.Tests.{lt-ltb, le-ltb, le-leb, leb-true}
 use Rattle.lists.specs.Functions.{all, total, keep}
 use Rattle.lists.specs.Sets.{member, Ascending, between}
-use Rattle.lists.proofs.Members.{by_test, member_head, member_tail, fails, same_test, and_left, and_right, and_both, or_true_cases, in_between, between-low, between-high, in_keep, kept_in, kept_passes, all_in, all_from, all_cong}
-use Rattle.lists.proofs.Order.{member-low, ascending_weaken, ascending-keep, ascending-between, same_members-by}
-use Rattle.lists.proofs.Counting.{total_passing}
+use Rattle.lists.proofs.Members.{by_test, member_head, member_tail, same_test, and_left, and_right, and_both, in_between, between-low, between-high, in_keep, kept_in, kept_passes, all_in, all_from, all_cong}
+use Rattle.lists.proofs.Order.{member-low, ascending-keep, ascending-between, same_members-by}
 use Rattle.foundation.specs.Numbers.{plus_zero, is_zero, finite, product, difference}
-use Rattle.foundation.specs.Plan.{Planning, Side, lower, upper, list}
+use Rattle.foundation.specs.Plan.{Planning, lower, upper}
 use Rattle.foundation.specs.Subscripts.{kept}
-use Rattle.foundation.specs.Slots.{slot_in, has_slot}
+use Rattle.foundation.specs.Slots.{has_slot}
 use Rattle.foundation.specs.Square.{Square}
 use Rattle.foundation.specs.Shown.{at_side}
-use Rattle.foundation.specs.Reference.{multiplier, reduced, eliminated, eliminated_right, updates_at, sound_update, sound_place, sound_row, sound_step}
+use Rattle.foundation.specs.Reference.{multiplier, reduced, eliminated, eliminated_right, updates_at, sound_place, sound_row, sound_step}
 use Rattle.foundation.proofs.FiniteRun.{row_judged}
-use Rattle.foundation.proofs.FloatSteps.{zero_plus_zero, multiplier-zero, reduced_left, reduced_right, eliminated-above, eliminated_left, eliminated_column, eliminated_right_lem, eliminated-zero}
+use Rattle.foundation.proofs.FloatSteps.{zero_plus_zero, multiplier-zero, reduced_left, eliminated_left, eliminated_column, eliminated_right_lem, eliminated-zero}
 use Rattle.run_slots.specs.Index.{limit, Grid}
 use Rattle.run_slots.specs.Shows.{InSlots}
 use Rattle.run_slots.specs.Flags.{flagged, nonzeros, with_diagonal, sound_list}

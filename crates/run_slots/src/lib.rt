@@ -1,4 +1,5 @@
 // What the crates of the elimination share: how a step and back substitution end, and the definitions and laws of stores that show a square.
+#![tactic(auto)]
 
 // How a step of the elimination ended.
 #[derive(Clone, Copy)]

@@ -1,6 +1,6 @@
 -- One place of the square written anew is one slot written: in L, in U or on the diagonal.
 use mathlib.Core.Bool.{cond, ◌&&◌}
-use mathlib.Core.List.{List, map}
+use mathlib.Core.List.{List}
 use mathlib.Core.Path.{◌≡◌, refl, sym, ap, ◌∙◌}
 use Prim.Native.Nat.{ℕ, suc, ◌-◌, ◌≤◌, ◌<◌}
 use native.Mathlib.Omega.{arith}
@@ -10,8 +10,7 @@ use lib.ListN.{length, get_or, set}
 use borrow.Author.Tests.{eqb-true, eq-eqb}
 use Rattle.lists.specs.Sets.{upto}
 use Rattle.lists.proofs.Members.{by_test}
-use Rattle.lists.proofs.Order.{ascending-upto}
-use Rattle.lists.proofs.Places.{length-upto, upto_at, length-map-upto, map-upto_at}
+use Rattle.lists.proofs.Places.{length-map-upto, map-upto_at}
 use Rattle.foundation.specs.Plan.{Planning, lower, upper}
 use Rattle.foundation.specs.Shown.{at_side, shown_diagonal}
 use Rattle.foundation.specs.Square.{Square}
@@ -19,7 +18,7 @@ use Rattle.run_slots.specs.Index.{Grid}
 use Rattle.run_slots.specs.Lists.{SlotOf}
 use Rattle.run_slots.specs.Shows.{Shows, SquareStores, square_stores, ShowsAll}
 use Rattle.run_slots.proofs.Grid.{above}
-use Rattle.run_slots.proofs.Mapped.{map_cong, set-map, map-upto-set}
+use Rattle.run_slots.proofs.Mapped.{map_cong, map-upto-set}
 use Rattle.run_slots.proofs.Shows.{part_inside, shows-read, shows-set, shows_same}
 
 -- a square with v at (i, j)

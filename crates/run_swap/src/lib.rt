@@ -1,4 +1,6 @@
 // Where slots lie, and slots that change places: what the exchange of two rows is made of.
+#![tactic(auto)]
+
 mod places;
 mod swapping;
 

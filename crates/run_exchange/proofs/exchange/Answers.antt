@@ -63,15 +63,14 @@ overflow_sub-p c =
     omega (arith, c.requires.low, p_above _ _ _ _ c.requires _ (p_is _ _ _ _ c.requires _ _ _ _ c.list_place-column.ensures))
 
 pub swap_within-requires : goal.swap_within-requires
-swap_within-requires c =
-    (
-      k_right _ _ _ _ c.requires _ (p_is _ _ _ _ c.requires _ _ _ _ c.list_place-column.ensures),
-      omega (
-        arith,
-        p_right _ _ _ _ c.requires _ (p_is _ _ _ _ c.requires _ _ _ _ c.list_place-column.ensures),
-        k_right _ _ _ _ c.requires _ (p_is _ _ _ _ c.requires _ _ _ _ c.list_place-column.ensures),
-      ),
-    )
+swap_within-requires c = (
+  k_right _ _ _ _ c.requires _ (p_is _ _ _ _ c.requires _ _ _ _ c.list_place-column.ensures),
+  omega (
+    arith,
+    p_right _ _ _ _ c.requires _ (p_is _ _ _ _ c.requires _ _ _ _ c.list_place-column.ensures),
+    k_right _ _ _ _ c.requires _ (p_is _ _ _ _ c.requires _ _ _ _ c.list_place-column.ensures),
+  ),
+)
 
 pub returns : goal.returns
 returns c =

@@ -26,11 +26,10 @@ pub overflow_sub-p : goal.overflow_sub-p
 overflow_sub-p c = p_low _ _ _ _ _ _ _ _ c.requires (there c.before.before.before)
 
 pub swap-requires : goal.swap-requires
-swap-requires c =
-    (
-      p_in _ _ _ _ _ _ _ _ c.requires (there c.before.before.before.before),
-      own_in _ _ _ _ _ _ _ _ c.requires (there c.before.before.before.before),
-    )
+swap-requires c = (
+  p_in _ _ _ _ _ _ _ _ c.requires (there c.before.before.before.before),
+  own_in _ _ _ _ _ _ _ _ c.requires (there c.before.before.before.before),
+)
 
 pub list_place-other-requires : goal.list_place-other-requires
 list_place-other-requires c =

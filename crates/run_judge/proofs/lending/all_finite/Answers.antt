@@ -1,5 +1,4 @@
 -- `lending::all_finite` meets its contract: what is still to be tested decides.
-use Prim.Native.Nat.{◌-◌}
 use native.Mathlib.Omega.{arith}
 use lib.Ieee.{of_bits}
 use Rattle.run_judge.proofs.Judged.{finite-turn, finite-stop, finite_end}

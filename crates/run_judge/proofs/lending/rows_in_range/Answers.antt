@@ -1,5 +1,4 @@
 -- `lending::rows_in_range` meets its contract: what is still to be tested decides.
-use Prim.Native.Nat.{◌-◌}
 use native.Mathlib.Omega.{arith}
 use Rattle.run_judge.proofs.Judged.{row_low, row_high, row_fits, rows_end}
 use Rattle.run_judge.proofs.lending.rows_in_range.Goals as goal

@@ -1,5 +1,4 @@
 -- `largest_row` meets its contract: the loop's invariant is `Seeking`.
-use Prim.Native.Nat.{◌-◌}
 use mathlib.Core.Logic.{⊎_elim}
 use mathlib.Core.Path.{refl}
 use lib.Ieee.{of_bits}

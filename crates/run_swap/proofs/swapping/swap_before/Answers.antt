@@ -1,5 +1,5 @@
 -- `swap_before` meets its contract: the loop's invariant is that the columns before place t lie before p and are exchanged.
-use Prim.Native.Nat.{◌<◌, ◌+◌, ◌-◌, ◌*◌, ◌^◌}
+use Prim.Native.Nat.{◌<◌, ◌+◌, ◌*◌, ◌^◌}
 use mathlib.Core.Path.{refl}
 use lib.ListN.{length, length-set}
 use Rattle.store_search.proofs.Places.{halving_start}

@@ -1,5 +1,5 @@
 -- `swap_beyond` meets its contract: the loop's invariant is that the columns before place t are exchanged.
-use Prim.Native.Nat.{◌<◌, ◌+◌, ◌-◌, ◌*◌, ◌^◌}
+use Prim.Native.Nat.{◌<◌, ◌+◌, ◌*◌, ◌^◌}
 use mathlib.Core.Path.{refl}
 use native.Mathlib.Nat.{le_refl, le_trans, le-add_left, le-add_right, lt_of_le_of_lt}
 use lib.ListN.{length, length-set}
