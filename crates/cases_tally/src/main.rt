@@ -8,16 +8,21 @@ mod lending;
 mod request;
 mod show;
 
+use std::io;
+
 // A proved loop has to end, and nothing says that the input does: the requests are counted up to a number that no input reaches.
-fn main() {
+fn main(rt: HostRuntime) -> io::Result<()> {
+    let mut reader = rt.stdin();
+    let mut writer = rt.stdout();
     let mut held = tally::empty();
     let mut number = 0usize;
     while number < 1_000_000 {
-        let served = request::serve(held);
+        let served = request::serve(&mut reader, &mut writer, held)?;
         if !served.more {
-            return;
+            return Ok(());
         }
         held = served.record;
         number += 1;
     }
+    Ok(())
 }
