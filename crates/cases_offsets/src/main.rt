@@ -1,3 +1,5 @@
+#![tactic(auto)]
+
 // Offsets by the hundred: standard input holds requests, and for each one standard output shows its number and the answer of `offsets::read`
 // or `offsets::write`: what was read, or what was written and every place of the lent store. tools/cases_offsets.py writes the requests, and
 // what a program of another author answers to them, into the files stdin and stdout.
