@@ -1,3 +1,5 @@
+#![tactic(auto)]
+
 // Test loads through `loads::load`: standard input holds requests, and for each one standard output shows what was asked, the answer and the four stores
 // afterwards. tools/cases_loads.py writes the requests, and what a program of another author answers to them, into the files stdin and stdout.
 //
