@@ -1,3 +1,5 @@
+#![tactic(auto)]
+
 // Planning calls by the hundred: standard input holds requests, and for each one standard output shows the answer of `planning::plan`,
 // every place of every result store, and whether the work stores are zero. tools/cases_planning.py writes the requests, and what a
 // dense program of another author answers to them, into the files stdin and stdout.
