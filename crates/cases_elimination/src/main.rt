@@ -1,3 +1,5 @@
+#![tactic(auto)]
+
 // Runs by the hundred: standard input holds requests, and for each one standard output shows the answers of `planning::verify` and of the run,
 // every place of every result store (a sum over the places of a long one), and whether the work stores are zero. tools/cases_elimination.py writes
 // the requests, and what a dense program of another author answers to them, into the files stdin and stdout.
