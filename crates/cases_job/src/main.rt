@@ -1,3 +1,5 @@
+#![tactic(auto)]
+
 // Jobs by the hundred: standard input holds jobs, and for each one standard output shows its number and the answer of `job::answer`.
 // tools/cases_job.py writes the jobs, and what a dense program of another author answers to them, into the files stdin and stdout.
 //
