@@ -1,3 +1,5 @@
+#![tactic(auto)]
+
 // The job program: a job on standard input, its answer on standard output (document 01, "Job").
 //
 // What is answered is decided by `job::answer`; here bytes are read and written, and nothing else. Stated is what the bytes handed on are: to
