@@ -1,3 +1,5 @@
+#![tactic(auto)]
+
 // The tally's record through `tally::add`: standard input holds requests, and for each one standard output shows the answer and all sixteen counters
 // afterwards. tools/cases_tally.py writes the requests, and what a program of another author answers to them, into the files stdin and stdout.
 //
