@@ -22,7 +22,7 @@ import sys
 PART_OF = {"plan": "planning", "verify": "planning", "run": "elimination", "job": "job", "offset": "offsets", "load": "loads"}
 SHARED = "store"
 EXPORTED = "dalumiveth"
-KIT = ("std", "io", "libc", "os")
+KIT = ("std",)
 
 
 def listed():

@@ -4,6 +4,8 @@
 // of the row list, the values, the right side; whether the rows are by list, whether the run is cut, and to how many steps; the lengths of the five
 // result stores; of the eight work stores.
 use crate::{runs, show, words};
+use std::io;
+use std::io::{Read, Write};
 
 pub const HEAD: usize = 38;
 
@@ -46,41 +48,59 @@ pub fn front_numbers<'a>(store: &'a [f64], head: &[usize; HEAD], at: usize) -> &
 }
 
 // Reads the first places of a store, as many as a head word asks for.
-fn read(store: &mut [usize], head: &[usize; HEAD], at: usize) -> bool {
+fn read<R: Read>(
+    reader: &mut R,
+    store: &mut [usize],
+    head: &[usize; HEAD],
+    at: usize,
+) -> io::Result<bool> {
     let asked = word(head, at);
     if store.len() < asked {
-        return false;
+        return Ok(false);
     }
-    words::fill(&mut store[0..asked])
+    words::fill(reader, &mut store[0..asked])
 }
 
-fn read_numbers(store: &mut [f64], head: &[usize; HEAD], at: usize) -> bool {
+fn read_numbers<R: Read>(
+    reader: &mut R,
+    store: &mut [f64],
+    head: &[usize; HEAD],
+    at: usize,
+) -> io::Result<bool> {
     let asked = word(head, at);
     if store.len() < asked {
-        return false;
+        return Ok(false);
     }
-    words::fill_numbers(&mut store[0..asked])
+    words::fill_numbers(reader, &mut store[0..asked])
 }
 
 // Reads and lends the plan's stores. All are read, whether one before had its numbers or not: a function without those branches is cheaper to prove.
-fn lend_plan(head: &[usize; HEAD], starts: &[usize], columns: &[usize]) -> bool {
+fn lend_plan<R: Read, W: Write>(
+    reader: &mut R,
+    writer: &mut W,
+    head: &[usize; HEAD],
+    starts: &[usize],
+    columns: &[usize],
+) -> io::Result<bool> {
     let mut l_subs = [BEFORE; SUBSCRIPTS];
     let mut l_starts = [BEFORE; PLACES];
     let mut l_slots = [BEFORE; PLACES];
     let mut u_subs = [BEFORE; SUBSCRIPTS];
     let mut u_starts = [BEFORE; PLACES];
     let mut u_slots = [BEFORE; PLACES];
-    let lower = read(&mut l_subs, head, 13)
-        & read(&mut l_starts, head, 14)
-        & read(&mut l_slots, head, 15);
-    let upper = read(&mut u_subs, head, 16)
-        & read(&mut u_starts, head, 17)
-        & read(&mut u_slots, head, 18);
+    let lower = read(reader, &mut l_subs, head, 13)?
+        & read(reader, &mut l_starts, head, 14)?
+        & read(reader, &mut l_slots, head, 15)?;
+    let upper = read(reader, &mut u_subs, head, 16)?
+        & read(reader, &mut u_starts, head, 17)?
+        & read(reader, &mut u_slots, head, 18)?;
     let all = lower & upper;
     if !all {
-        return false;
+        return Ok(false);
     }
     lend_numbers(
+        reader,
+        writer,
         head,
         starts,
         columns,
@@ -94,7 +114,9 @@ fn lend_plan(head: &[usize; HEAD], starts: &[usize], columns: &[usize]) -> bool 
 }
 
 // Reads and lends the row list, the values and the right side.
-fn lend_numbers(
+fn lend_numbers<R: Read, W: Write>(
+    reader: &mut R,
+    writer: &mut W,
     head: &[usize; HEAD],
     starts: &[usize],
     columns: &[usize],
@@ -104,17 +126,18 @@ fn lend_numbers(
     u_subs: &[usize],
     u_starts: &[usize],
     u_slots: &[usize],
-) -> bool {
+) -> io::Result<bool> {
     let mut rows = [BEFORE; ROWS];
     let mut values = [BEFORE_NUMBER; ENTRIES];
     let mut right = [BEFORE_NUMBER; ROWS];
-    let all = read(&mut rows, head, 19)
-        & read_numbers(&mut values, head, 20)
-        & read_numbers(&mut right, head, 21);
+    let all = read(reader, &mut rows, head, 19)?
+        & read_numbers(reader, &mut values, head, 20)?
+        & read_numbers(reader, &mut right, head, 21)?;
     if !all {
-        return false;
+        return Ok(false);
     }
     runs::verify_and_run(
+        writer,
         head,
         starts,
         columns,
@@ -127,31 +150,41 @@ fn lend_numbers(
         front(&rows, head, 19),
         front_numbers(&values, head, 20),
         front_numbers(&right, head, 21),
-    );
-    true
+    )?;
+    Ok(true)
 }
 
 // Reads and lends the pattern.
-fn lend_pattern(head: &[usize; HEAD]) -> bool {
+fn lend_pattern<R: Read, W: Write>(
+    reader: &mut R,
+    writer: &mut W,
+    head: &[usize; HEAD],
+) -> io::Result<bool> {
     let mut starts = [BEFORE; ROWS];
     let mut columns = [BEFORE; ENTRIES];
-    let all = read(&mut starts, head, 3) & read(&mut columns, head, 4);
+    let all = read(reader, &mut starts, head, 3)? & read(reader, &mut columns, head, 4)?;
     if !all {
-        return false;
+        return Ok(false);
     }
-    lend_plan(head, front(&starts, head, 3), front(&columns, head, 4))
+    lend_plan(
+        reader,
+        writer,
+        head,
+        front(&starts, head, 3),
+        front(&columns, head, 4),
+    )
 }
 
 // Reads and answers one request. It answers whether to go on: not at the end of the input, and not after a bad request.
-pub fn serve() -> bool {
+pub fn serve<R: Read, W: Write>(reader: &mut R, writer: &mut W) -> io::Result<bool> {
     let mut head = [0usize; HEAD];
-    let got = words::fill_head(&mut head);
+    let got = words::fill_head(reader, &mut head)?;
     if got == 0 {
-        return false;
+        return Ok(false);
     }
-    if got < HEAD || !lend_pattern(&head) {
-        show::bad_request();
-        return false;
+    if got < HEAD || !lend_pattern(reader, writer, &head)? {
+        show::bad_request(writer)?;
+        return Ok(false);
     }
-    true
+    Ok(true)
 }

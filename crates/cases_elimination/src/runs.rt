@@ -3,6 +3,8 @@ use crate::request::{BEFORE, BEFORE_NUMBER, HEAD, PLACES, ROWS};
 use crate::{request, show};
 use answers::{Extent, PivotChoice, PlanCounts, RunAnswer};
 use numbers::{counts_from, extent_from};
+use std::io;
+use std::io::Write;
 
 const SLOTS: usize = 66_000;
 
@@ -46,7 +48,8 @@ fn extent(head: &[usize; HEAD]) -> Extent {
 }
 
 // The answer about the lent plan, in work stores of its own.
-fn verify(
+fn verify<W: Write>(
+    writer: &mut W,
     head: &[usize; HEAD],
     starts: &[usize],
     columns: &[usize],
@@ -56,37 +59,41 @@ fn verify(
     u_subs: &[usize],
     u_starts: &[usize],
     u_slots: &[usize],
-) {
+) -> io::Result<()> {
     let mut row_heads = [BEFORE; ROWS];
     let mut row_links = [BEFORE; ROWS];
     let mut set_heads = [BEFORE; ROWS];
     let mut set_links = [BEFORE; ROWS];
     let mut list = [BEFORE; ROWS];
     let mut spare = [BEFORE; ROWS];
-    show::verified(planning::verify(
-        request::word(head, 0),
-        request::word(head, 1),
-        request::word(head, 2),
-        starts,
-        columns,
-        counts(head),
-        l_subs,
-        l_starts,
-        l_slots,
-        u_subs,
-        u_starts,
-        u_slots,
-        front(&mut row_heads, head, 30),
-        front(&mut row_links, head, 31),
-        front(&mut set_heads, head, 32),
-        front(&mut set_links, head, 33),
-        front(&mut list, head, 34),
-        front(&mut spare, head, 35),
-    ));
+    show::verified(
+        writer,
+        planning::verify(
+            request::word(head, 0),
+            request::word(head, 1),
+            request::word(head, 2),
+            starts,
+            columns,
+            counts(head),
+            l_subs,
+            l_starts,
+            l_slots,
+            u_subs,
+            u_starts,
+            u_slots,
+            front(&mut row_heads, head, 30),
+            front(&mut row_links, head, 31),
+            front(&mut set_heads, head, 32),
+            front(&mut set_links, head, 33),
+            front(&mut list, head, 34),
+            front(&mut spare, head, 35),
+        ),
+    )
 }
 
 // The answer and the five result stores.
-fn show_results(
+fn show_results<W: Write>(
+    writer: &mut W,
     head: &[usize; HEAD],
     answer: RunAnswer,
     l: &[f64],
@@ -94,13 +101,21 @@ fn show_results(
     diagonal: &[f64],
     solution: &[f64],
     pivots: &[usize],
-) {
-    show::ran(answer);
-    show::numbers(b"lower", request::front_numbers(l, head, 25));
-    show::numbers(b"upper", request::front_numbers(u, head, 26));
-    show::numbers(b"diagonal", request::front_numbers(diagonal, head, 27));
-    show::numbers(b"solution", request::front_numbers(solution, head, 28));
-    show::rows(b"pivots", request::front(pivots, head, 29));
+) -> io::Result<()> {
+    show::ran(writer, answer)?;
+    show::numbers(writer, b"lower", request::front_numbers(l, head, 25))?;
+    show::numbers(writer, b"upper", request::front_numbers(u, head, 26))?;
+    show::numbers(
+        writer,
+        b"diagonal",
+        request::front_numbers(diagonal, head, 27),
+    )?;
+    show::numbers(
+        writer,
+        b"solution",
+        request::front_numbers(solution, head, 28),
+    )?;
+    show::rows(writer, b"pivots", request::front(pivots, head, 29))
 }
 
 // Whether the first places of a store, as many as a head word asks for, are zero.
@@ -113,7 +128,8 @@ fn plus_zero(store: &[f64], head: &[usize; HEAD], at: usize) -> bool {
 }
 
 // Whether the eight work stores are zero throughout.
-fn show_work(
+fn show_work<W: Write>(
+    writer: &mut W,
     head: &[usize; HEAD],
     row_heads: &[usize],
     row_links: &[usize],
@@ -123,16 +139,17 @@ fn show_work(
     spare: &[usize],
     copy: &[f64],
     dense: &[f64],
-) {
+) -> io::Result<()> {
     let rows = zero(row_heads, head, 30) & zero(row_links, head, 31);
     let sets = zero(set_heads, head, 32) & zero(set_links, head, 33);
     let lists = zero(list, head, 34) & zero(spare, head, 35);
     let floats = plus_zero(copy, head, 36) & plus_zero(dense, head, 37);
-    show::work(rows & sets & lists & floats);
+    show::work(writer, rows & sets & lists & floats)
 }
 
 // A run, in parts of arrays of its own, of the lengths that the head asks for; and every store afterwards.
-fn run(
+fn run<W: Write>(
+    writer: &mut W,
     head: &[usize; HEAD],
     starts: &[usize],
     columns: &[usize],
@@ -145,7 +162,7 @@ fn run(
     rows: &[usize],
     values: &[f64],
     right: &[f64],
-) {
+) -> io::Result<()> {
     let mut l = [BEFORE_NUMBER; SLOTS];
     let mut u = [BEFORE_NUMBER; SLOTS];
     let mut diagonal = [BEFORE_NUMBER; PLACES];
@@ -191,14 +208,15 @@ fn run(
         front_numbers(&mut copy, head, 36),
         front_numbers(&mut dense, head, 37),
     );
-    show_results(head, answer, &l, &u, &diagonal, &solution, &pivots);
+    show_results(writer, head, answer, &l, &u, &diagonal, &solution, &pivots)?;
     show_work(
-        head, &row_heads, &row_links, &set_heads, &set_links, &list, &spare, &copy, &dense,
-    );
+        writer, head, &row_heads, &row_links, &set_heads, &set_links, &list, &spare, &copy, &dense,
+    )
 }
 
 // Both calls of a request.
-pub fn verify_and_run(
+pub fn verify_and_run<W: Write>(
+    writer: &mut W,
     head: &[usize; HEAD],
     starts: &[usize],
     columns: &[usize],
@@ -211,12 +229,12 @@ pub fn verify_and_run(
     rows: &[usize],
     values: &[f64],
     right: &[f64],
-) {
+) -> io::Result<()> {
     verify(
-        head, starts, columns, l_subs, l_starts, l_slots, u_subs, u_starts, u_slots,
-    );
+        writer, head, starts, columns, l_subs, l_starts, l_slots, u_subs, u_starts, u_slots,
+    )?;
     run(
-        head, starts, columns, l_subs, l_starts, l_slots, u_subs, u_starts, u_slots, rows, values,
-        right,
-    );
+        writer, head, starts, columns, l_subs, l_starts, l_slots, u_subs, u_starts, u_slots, rows,
+        values, right,
+    )
 }

@@ -1,7 +1,9 @@
 // Lines on standard output.
 use answers::{RunAnswer, RunOutcome, VerifyAnswer};
-use libc::STDOUT_FILENO;
 use numbers::{number_and_step, number_of};
+use std::io;
+use std::io::Write;
+use streams::{write_decimal, write_hex};
 
 // The longest store that is shown place by place.
 const SHOWN: usize = 48;
@@ -9,25 +11,25 @@ const SHOWN: usize = 48;
 const PRIME: u64 = 4_294_967_291;
 
 // A blank and a number in hexadecimal.
-fn number(value: u64) {
-    io::write_all(STDOUT_FILENO, b" ");
-    io::print_hex(STDOUT_FILENO, value, 1);
+fn number<W: Write>(writer: &mut W, value: u64) -> io::Result<()> {
+    writer.write_all(b" ")?;
+    write_hex(writer, value, 1)
 }
 
 // A blank and a number in decimal.
-fn decimal(value: usize) {
-    io::write_all(STDOUT_FILENO, b" ");
-    io::print_decimal(STDOUT_FILENO, value as u64);
+fn decimal<W: Write>(writer: &mut W, value: usize) -> io::Result<()> {
+    writer.write_all(b" ")?;
+    write_decimal(writer, value as u64)
 }
 
 // The end of a line.
-fn end() {
-    io::write_all(STDOUT_FILENO, b"\n");
+fn end<W: Write>(writer: &mut W) -> io::Result<()> {
+    writer.write_all(b"\n")
 }
 
 // The line that ends the program early.
-pub fn bad_request() {
-    io::write_all(STDOUT_FILENO, b"bad request\n");
+pub fn bad_request<W: Write>(writer: &mut W) -> io::Result<()> {
+    writer.write_all(b"bad request\n")
 }
 
 // The bits of a number; the one NaN that there is has those of a quiet one.
@@ -45,26 +47,25 @@ fn taken_in(sum: u64, value: u64) -> u64 {
 }
 
 // How many places a long store has, and the sum over them.
-fn summed(count: usize, sum: u64) {
-    number(count as u64);
-    io::write_all(STDOUT_FILENO, b" places");
-    number(sum);
-    end();
+fn summed<W: Write>(writer: &mut W, count: usize, sum: u64) -> io::Result<()> {
+    number(writer, count as u64)?;
+    writer.write_all(b" places")?;
+    number(writer, sum)?;
+    end(writer)
 }
 
 // A store's name and every place of it.
-pub fn numbers(name: &[u8], places: &[f64]) {
-    io::write_all(STDOUT_FILENO, name);
+pub fn numbers<W: Write>(writer: &mut W, name: &[u8], places: &[f64]) -> io::Result<()> {
+    writer.write_all(name)?;
     if SHOWN < places.len() {
-        summed(places.len(), sum_of_numbers(places));
-        return;
+        return summed(writer, places.len(), sum_of_numbers(places));
     }
     let mut i = 0;
     while i < places.len() {
-        number(bits(places[i]));
+        number(writer, bits(places[i]))?;
         i += 1;
     }
-    end();
+    end(writer)
 }
 
 // The sum over the places of a store of f64, by their bits.
@@ -84,18 +85,17 @@ fn wide(value: usize) -> u64 {
 }
 
 // The same of a store of rows.
-pub fn rows(name: &[u8], places: &[usize]) {
-    io::write_all(STDOUT_FILENO, name);
+pub fn rows<W: Write>(writer: &mut W, name: &[u8], places: &[usize]) -> io::Result<()> {
+    writer.write_all(name)?;
     if SHOWN < places.len() {
-        summed(places.len(), sum_of_rows(places));
-        return;
+        return summed(writer, places.len(), sum_of_rows(places));
     }
     let mut i = 0;
     while i < places.len() {
-        number(wide(places[i]));
+        number(writer, wide(places[i]))?;
         i += 1;
     }
-    end();
+    end(writer)
 }
 
 // The sum over the places of a store of rows.
@@ -110,38 +110,36 @@ fn sum_of_rows(places: &[usize]) -> u64 {
 }
 
 // A refusal by its number, and its step.
-fn refused(value: usize, step: usize) {
-    io::write_all(STDOUT_FILENO, b" refused");
-    decimal(value);
-    decimal(step);
-    end();
+fn refused<W: Write>(writer: &mut W, value: usize, step: usize) -> io::Result<()> {
+    writer.write_all(b" refused")?;
+    decimal(writer, value)?;
+    decimal(writer, step)?;
+    end(writer)
 }
 
 // The answer about the lent plan.
-pub fn verified(answer: VerifyAnswer) {
-    io::write_all(STDOUT_FILENO, b"verify");
+pub fn verified<W: Write>(writer: &mut W, answer: VerifyAnswer) -> io::Result<()> {
+    writer.write_all(b"verify")?;
     match answer {
-        VerifyAnswer::Agrees => {
-            io::write_all(STDOUT_FILENO, b" agrees\n");
-        }
+        VerifyAnswer::Agrees => writer.write_all(b" agrees\n"),
         VerifyAnswer::Refused(refusal) => {
             let numbered = number_and_step(refusal);
-            refused(numbered.number, numbered.step);
+            refused(writer, numbered.number, numbered.step)
         }
     }
 }
 
 // The run's answer.
-pub fn ran(answer: RunAnswer) {
-    io::write_all(STDOUT_FILENO, b"run");
+pub fn ran<W: Write>(writer: &mut W, answer: RunAnswer) -> io::Result<()> {
+    writer.write_all(b"run")?;
     let outcome = answer.outcome;
     match outcome {
         RunOutcome::Finished(updates) => {
-            io::write_all(STDOUT_FILENO, b" finished");
-            decimal(updates);
-            end();
+            writer.write_all(b" finished")?;
+            decimal(writer, updates)?;
+            end(writer)
         }
-        RunOutcome::Stopped(reason, step) => refused(number_of(reason), step),
+        RunOutcome::Stopped(reason, step) => refused(writer, number_of(reason), step),
     }
 }
 
@@ -170,10 +168,10 @@ pub fn is_plus_zero(places: &[f64]) -> bool {
 }
 
 // The line on the work stores.
-pub fn work(zero: bool) {
+pub fn work<W: Write>(writer: &mut W, zero: bool) -> io::Result<()> {
     if zero {
-        io::write_all(STDOUT_FILENO, b"work zero\n");
+        writer.write_all(b"work zero\n")
     } else {
-        io::write_all(STDOUT_FILENO, b"work DIRTY\n");
+        writer.write_all(b"work DIRTY\n")
     }
 }

@@ -1,4 +1,7 @@
 // Standard input as numbers of two, four and eight bytes, low byte first.
+use std::io;
+use std::io::Read;
+use streams::read_full;
 
 // The next number, or that the input has ended.
 #[derive(Clone, Copy)]
@@ -56,70 +59,70 @@ fn number_of(bits: u64) -> f64 {
 }
 
 // One number is read at a time: the program then needs no buffer that would limit the length of its input.
-fn next() -> Word {
+fn next<R: Read>(reader: &mut R) -> io::Result<Word> {
     let mut bytes = [0u8; 2];
-    let got = io::read_full(libc::STDIN_FILENO, &mut bytes);
+    let got = read_full(reader, &mut bytes)?;
     if got < 2 {
-        return Word::End;
+        return Ok(Word::End);
     }
-    Word::Value(joined(&bytes))
+    Ok(Word::Value(joined(&bytes)))
 }
 
 // The next number of four bytes.
-fn next_four() -> Word {
+fn next_four<R: Read>(reader: &mut R) -> io::Result<Word> {
     let mut bytes = [0u8; 4];
-    let got = io::read_full(libc::STDIN_FILENO, &mut bytes);
+    let got = read_full(reader, &mut bytes)?;
     if got < 4 {
-        return Word::End;
+        return Ok(Word::End);
     }
-    Word::Value(joined_four(&bytes))
+    Ok(Word::Value(joined_four(&bytes)))
 }
 
 // The next f64.
-fn next_number() -> Number {
+fn next_number<R: Read>(reader: &mut R) -> io::Result<Number> {
     let mut bytes = [0u8; 8];
-    let got = io::read_full(libc::STDIN_FILENO, &mut bytes);
+    let got = read_full(reader, &mut bytes)?;
     if got < 8 {
-        return Number::End;
+        return Ok(Number::End);
     }
-    Number::Value(number_of(joined_eight(&bytes)))
+    Ok(Number::Value(number_of(joined_eight(&bytes))))
 }
 
 // Fills `out` with head words of four bytes, and answers how many there were: fewer than its length where the input ends.
-pub fn fill_head(out: &mut [usize]) -> usize {
+pub fn fill_head<R: Read>(reader: &mut R, out: &mut [usize]) -> io::Result<usize> {
     let mut i = 0;
     while i < out.len() {
-        let Word::Value(value) = next_four() else {
-            return i;
+        let Word::Value(value) = next_four(reader)? else {
+            return Ok(i);
         };
         out[i] = value;
         i += 1;
     }
-    i
+    Ok(i)
 }
 
 // Fills `out` with numbers of two bytes. Whether the input had them all.
-pub fn fill(out: &mut [usize]) -> bool {
+pub fn fill<R: Read>(reader: &mut R, out: &mut [usize]) -> io::Result<bool> {
     let mut i = 0;
     while i < out.len() {
-        let Word::Value(value) = next() else {
-            return false;
+        let Word::Value(value) = next(reader)? else {
+            return Ok(false);
         };
         out[i] = value;
         i += 1;
     }
-    true
+    Ok(true)
 }
 
 // Fills `out` with f64s. Whether the input had them all.
-pub fn fill_numbers(out: &mut [f64]) -> bool {
+pub fn fill_numbers<R: Read>(reader: &mut R, out: &mut [f64]) -> io::Result<bool> {
     let mut i = 0;
     while i < out.len() {
-        let Number::Value(value) = next_number() else {
-            return false;
+        let Number::Value(value) = next_number(reader)? else {
+            return Ok(false);
         };
         out[i] = value;
         i += 1;
     }
-    true
+    Ok(true)
 }

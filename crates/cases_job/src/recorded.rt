@@ -1,4 +1,7 @@
 // The jobs that standard input records.
+use std::io;
+use std::io::Read;
+use streams::read_full;
 
 // The longest job that is recorded: past the bytes that a job may have (`job::LONGEST`), so that 18 is among the answers.
 pub const LONGEST: usize = 20_000;
@@ -30,18 +33,18 @@ fn front(store: &mut [u8], count: usize) -> &mut [u8] {
 }
 
 // Reads the next job into the front of `store`.
-pub fn next(store: &mut [u8]) -> Recorded {
+pub fn next<R: Read>(reader: &mut R, store: &mut [u8]) -> io::Result<Recorded> {
     let mut head = [0u8; 2];
-    let got = io::read_full(libc::STDIN_FILENO, &mut head);
+    let got = read_full(reader, &mut head)?;
     if got == 0 {
-        return Recorded::End;
+        return Ok(Recorded::End);
     }
     let size = joined(&head);
     if got < 2 || size > store.len() {
-        return Recorded::Bad;
+        return Ok(Recorded::Bad);
     }
-    if io::read_full(libc::STDIN_FILENO, front(store, size)) < size {
-        return Recorded::Bad;
+    if read_full(reader, front(store, size))? < size {
+        return Ok(Recorded::Bad);
     }
-    Recorded::Job(size)
+    Ok(Recorded::Job(size))
 }

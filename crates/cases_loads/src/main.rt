@@ -1,3 +1,5 @@
+#![tactic(auto)]
+
 // Test loads through `loads::load`: standard input holds requests, and for each one standard output shows what was asked, the answer and the four stores
 // afterwards. tools/cases_loads.py writes the requests, and what a program of another author answers to them, into the files stdin and stdout.
 //
@@ -8,10 +10,15 @@ mod input;
 mod request;
 mod show;
 
+use std::io;
+
 // A proved loop has to end, and nothing says that the input does: the turns are counted down from a number that no input uses up.
-fn main() {
+fn main(rt: HostRuntime) -> io::Result<()> {
+    let mut reader = rt.stdin();
+    let mut writer = rt.stdout();
     let mut turns = 1_000_000usize;
-    while turns > 0 && request::serve() {
+    while turns > 0 && request::serve(&mut reader, &mut writer)? {
         turns -= 1;
     }
+    Ok(())
 }

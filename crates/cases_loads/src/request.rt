@@ -2,6 +2,9 @@
 use crate::input::{WHOLE, number};
 use crate::show;
 use answers::LoadAnswer;
+use std::io;
+use std::io::{Read, Write};
+use streams::read_full;
 
 const LARGEST_SEED: usize = 4_294_967_295;
 
@@ -77,7 +80,8 @@ fn rows_filled(entries: usize) -> usize {
 }
 
 // Shows the four stores.
-fn show_stores(
+fn show_stores<W: Write>(
+    writer: &mut W,
     request: &[u8; WHOLE],
     each: bool,
     entries: usize,
@@ -85,16 +89,22 @@ fn show_stores(
     columns: &[usize],
     values: &[f64],
     right: &[f64],
-) {
+) -> io::Result<()> {
     let rows = rows_filled(entries);
-    show::store(b"starts", lent(starts, request, 3), each, rows);
-    show::store(b"columns", lent(columns, request, 4), each, entries);
-    show::floats(b"values", lent_floats(values, request, 5), each, entries);
-    show::floats(b"right", lent_floats(right, request, 6), each, rows);
+    show::store(writer, b"starts", lent(starts, request, 3), each, rows)?;
+    show::store(writer, b"columns", lent(columns, request, 4), each, entries)?;
+    show::floats(
+        writer,
+        b"values",
+        lent_floats(values, request, 5),
+        each,
+        entries,
+    )?;
+    show::floats(writer, b"right", lent_floats(right, request, 6), each, rows)
 }
 
 // The call, in parts of arrays of its own, of the lengths that are asked for; the answer, and every store afterwards.
-fn load(request: &[u8; WHOLE], each: bool) {
+fn load<W: Write>(writer: &mut W, request: &[u8; WHOLE], each: bool) -> io::Result<()> {
     let mut starts = [BEFORE; ROWS];
     let mut columns = [BEFORE; ENTRIES];
     let mut values = [BEFORE_VALUE; ENTRIES];
@@ -108,8 +118,9 @@ fn load(request: &[u8; WHOLE], each: bool) {
         front_floats(&mut values, request, 5),
         front_floats(&mut right, request, 6),
     );
-    show::answered(answer);
+    show::answered(writer, answer)?;
     show_stores(
+        writer,
         request,
         each,
         entries_of(answer),
@@ -117,30 +128,30 @@ fn load(request: &[u8; WHOLE], each: bool) {
         &columns,
         &values,
         &right,
-    );
+    )
 }
 
 // Answers a request by its first byte. Whether it is one.
-fn served(request: &[u8; WHOLE]) -> bool {
+fn served<W: Write>(writer: &mut W, request: &[u8; WHOLE]) -> io::Result<bool> {
     let kind = request[0];
     if !fits(request) || kind != b'L' && kind != b'S' {
-        return false;
+        return Ok(false);
     }
-    show::asked(request);
-    load(request, kind == b'L');
-    true
+    show::asked(writer, request)?;
+    load(writer, request, kind == b'L')?;
+    Ok(true)
 }
 
 // Answers the next request. Whether to go on: not at the end of the input, and not after a bad request.
-pub fn serve() -> bool {
+pub fn serve<R: Read, W: Write>(reader: &mut R, writer: &mut W) -> io::Result<bool> {
     let mut request = [0u8; WHOLE];
-    let count = io::read_full(libc::STDIN_FILENO, &mut request);
+    let count = read_full(reader, &mut request)?;
     if count == 0 {
-        return false;
+        return Ok(false);
     }
-    if count < WHOLE || !served(&request) {
-        show::bad_request();
-        return false;
+    if count < WHOLE || !served(writer, &request)? {
+        show::bad_request(writer)?;
+        return Ok(false);
     }
-    true
+    Ok(true)
 }

@@ -1,67 +1,72 @@
 // Lines on standard output.
 use crate::input::{NUMBERS, WHOLE, number};
 use answers::LoadAnswer;
-use libc::STDOUT_FILENO;
+use std::io;
+use std::io::Write;
+use streams::{write_decimal, write_hex};
 
 const PRIME: u64 = 4_294_967_291;
 
 // A blank and a number.
-fn decimal(value: usize) {
-    io::write_all(STDOUT_FILENO, b" ");
-    io::print_decimal(STDOUT_FILENO, value as u64);
+fn decimal<W: Write>(writer: &mut W, value: usize) -> io::Result<()> {
+    writer.write_all(b" ")?;
+    write_decimal(writer, value as u64)
 }
 
 // The same, or nothing.
-fn decimal_if(wanted: bool, value: usize) {
+fn decimal_if<W: Write>(writer: &mut W, wanted: bool, value: usize) -> io::Result<()> {
     if wanted {
-        decimal(value);
+        decimal(writer, value)?;
     }
+    Ok(())
 }
 
 // A blank and the bits of an f64, or nothing.
-fn hexadecimal_if(wanted: bool, value: u64) {
+fn hexadecimal_if<W: Write>(writer: &mut W, wanted: bool, value: u64) -> io::Result<()> {
     if wanted {
-        io::write_all(STDOUT_FILENO, b" ");
-        io::print_hex(STDOUT_FILENO, value, 16);
+        writer.write_all(b" ")?;
+        write_hex(writer, value, 16)?;
     }
+    Ok(())
 }
 
 // The line that ends the program early.
-pub fn bad_request() {
-    io::write_all(STDOUT_FILENO, b"bad request\n");
+pub fn bad_request<W: Write>(writer: &mut W) -> io::Result<()> {
+    writer.write_all(b"bad request\n")
 }
 
 // That a load was granted, with so many entries.
-fn granted(entries: usize) {
-    io::write_all(STDOUT_FILENO, b" granted");
-    decimal(entries);
-    io::write_all(STDOUT_FILENO, b"\n");
+fn granted<W: Write>(writer: &mut W, entries: usize) -> io::Result<()> {
+    writer.write_all(b" granted")?;
+    decimal(writer, entries)?;
+    writer.write_all(b"\n")
 }
 
 // A refusal by its number; its step is 0.
-fn refused(reason: usize) {
-    io::write_all(STDOUT_FILENO, b" refused");
-    decimal(reason);
-    io::write_all(STDOUT_FILENO, b" 0\n");
+fn refused<W: Write>(writer: &mut W, reason: usize) -> io::Result<()> {
+    writer.write_all(b" refused")?;
+    decimal(writer, reason)?;
+    writer.write_all(b" 0\n")
 }
 
 // The line of a call, up to the answer: the numbers that were asked with.
-pub fn asked(request: &[u8; WHOLE]) {
-    io::write_all(STDOUT_FILENO, b"load");
+pub fn asked<W: Write>(writer: &mut W, request: &[u8; WHOLE]) -> io::Result<()> {
+    writer.write_all(b"load")?;
     let mut at = 0;
     while at < NUMBERS {
-        decimal(number(request, at));
+        decimal(writer, number(request, at))?;
         at += 1;
     }
+    Ok(())
 }
 
 // The rest of that line.
-pub fn answered(answer: LoadAnswer) {
+pub fn answered<W: Write>(writer: &mut W, answer: LoadAnswer) -> io::Result<()> {
     match answer {
-        LoadAnswer::Entries(count) => granted(count),
-        LoadAnswer::Limits => refused(1),
-        LoadAnswer::NoDivisor => refused(23),
-        LoadAnswer::Stores => refused(6),
+        LoadAnswer::Entries(count) => granted(writer, count),
+        LoadAnswer::Limits => refused(writer, 1),
+        LoadAnswer::NoDivisor => refused(writer, 23),
+        LoadAnswer::Stores => refused(writer, 6),
     }
 }
 
@@ -114,29 +119,29 @@ fn taken_in(sum: u64, value: u64) -> u64 {
 }
 
 // Shows each place if that is asked for, and answers the sum over them.
-fn places(filled: &[usize], each: bool) -> u64 {
+fn places<W: Write>(writer: &mut W, filled: &[usize], each: bool) -> io::Result<u64> {
     let mut sum = 0;
     let mut i = 0;
     while i < filled.len() {
         let place = filled[i];
-        decimal_if(each, place);
+        decimal_if(writer, each, place)?;
         sum = taken_in(sum, wide(place));
         i += 1;
     }
-    sum
+    Ok(sum)
 }
 
 // The same of f64, by their bits.
-fn float_places(filled: &[f64], each: bool) -> u64 {
+fn float_places<W: Write>(writer: &mut W, filled: &[f64], each: bool) -> io::Result<u64> {
     let mut sum = 0;
     let mut i = 0;
     while i < filled.len() {
         let place = bits(filled[i]);
-        hexadecimal_if(each, place);
+        hexadecimal_if(writer, each, place)?;
         sum = taken_in(sum, place);
         i += 1;
     }
-    sum
+    Ok(sum)
 }
 
 // How many places are not zero.
@@ -170,27 +175,39 @@ fn not_plus_zero(rest: &[f64]) -> usize {
 }
 
 // The end of a store's line: the sum over the places that the load fills, how many places lie behind them, and how many of these are not zero.
-fn ends(sum: u64, behind: usize, others: usize) {
-    io::write_all(STDOUT_FILENO, b" sum ");
-    io::print_decimal(STDOUT_FILENO, sum);
-    io::write_all(STDOUT_FILENO, b" rest");
-    decimal(behind);
-    decimal(others);
-    io::write_all(STDOUT_FILENO, b"\n");
+fn ends<W: Write>(writer: &mut W, sum: u64, behind: usize, others: usize) -> io::Result<()> {
+    writer.write_all(b" sum ")?;
+    write_decimal(writer, sum)?;
+    writer.write_all(b" rest")?;
+    decimal(writer, behind)?;
+    decimal(writer, others)?;
+    writer.write_all(b"\n")
 }
 
 // A store's line: its name, the places that the load fills and those behind them.
-pub fn store(name: &[u8], lent: &[usize], each: bool, filled: usize) {
-    io::write_all(STDOUT_FILENO, name);
-    let sum = places(first_of(lent, filled), each);
+pub fn store<W: Write>(
+    writer: &mut W,
+    name: &[u8],
+    lent: &[usize],
+    each: bool,
+    filled: usize,
+) -> io::Result<()> {
+    writer.write_all(name)?;
+    let sum = places(writer, first_of(lent, filled), each)?;
     let rest = rest_of(lent, filled);
-    ends(sum, rest.len(), not_zero(rest));
+    ends(writer, sum, rest.len(), not_zero(rest))
 }
 
 // The same of a store of f64.
-pub fn floats(name: &[u8], lent: &[f64], each: bool, filled: usize) {
-    io::write_all(STDOUT_FILENO, name);
-    let sum = float_places(first_floats_of(lent, filled), each);
+pub fn floats<W: Write>(
+    writer: &mut W,
+    name: &[u8],
+    lent: &[f64],
+    each: bool,
+    filled: usize,
+) -> io::Result<()> {
+    writer.write_all(name)?;
+    let sum = float_places(writer, first_floats_of(lent, filled), each)?;
     let rest = rest_floats_of(lent, filled);
-    ends(sum, rest.len(), not_plus_zero(rest));
+    ends(writer, sum, rest.len(), not_plus_zero(rest))
 }

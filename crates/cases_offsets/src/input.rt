@@ -1,4 +1,7 @@
 // Standard input as bytes and as f64s.
+use std::io;
+use std::io::Read;
+use streams::read_full;
 
 // The next byte, or that the input has ended.
 #[derive(Clone, Copy)]
@@ -40,24 +43,24 @@ fn number_of(bits: u64) -> f64 {
 }
 
 // The next byte.
-pub fn next_byte() -> Byte {
+pub fn next_byte<R: Read>(reader: &mut R) -> io::Result<Byte> {
     let mut bytes = [0u8; 1];
-    if io::read_full(libc::STDIN_FILENO, &mut bytes) < 1 {
-        return Byte::End;
+    if read_full(reader, &mut bytes)? < 1 {
+        return Ok(Byte::End);
     }
-    Byte::Value(bytes[0])
+    Ok(Byte::Value(bytes[0]))
 }
 
 // The next f64.
-pub fn next_number() -> Number {
+pub fn next_number<R: Read>(reader: &mut R) -> io::Result<Number> {
     let mut bytes = [0u8; 8];
-    if io::read_full(libc::STDIN_FILENO, &mut bytes) < 8 {
-        return Number::End;
+    if read_full(reader, &mut bytes)? < 8 {
+        return Ok(Number::End);
     }
-    Number::Value(number_of(joined(&bytes)))
+    Ok(Number::Value(number_of(joined(&bytes))))
 }
 
 // Fills `out`. Whether the input had all its bytes.
-pub fn fill(out: &mut [u8]) -> bool {
-    io::read_full(libc::STDIN_FILENO, out) == out.len()
+pub fn fill<R: Read>(reader: &mut R, out: &mut [u8]) -> io::Result<bool> {
+    Ok(read_full(reader, out)? == out.len())
 }

@@ -1,3 +1,5 @@
+#![tactic(auto)]
+
 // Offsets by the hundred: standard input holds requests, and for each one standard output shows its number and the answer of `offsets::read`
 // or `offsets::write`: what was read, or what was written and every place of the lent store. tools/cases_offsets.py writes the requests, and
 // what a program of another author answers to them, into the files stdin and stdout.
@@ -8,10 +10,15 @@ mod input;
 mod request;
 mod show;
 
+use std::io;
+
 // A proved loop has to end, and nothing says that the input does: the requests are counted up to a number that no input reaches.
-fn main() {
+fn main(rt: HostRuntime) -> io::Result<()> {
+    let mut reader = rt.stdin();
+    let mut writer = rt.stdout();
     let mut number = 1usize;
-    while number < 1_000_000 && request::serve(number) {
+    while number < 1_000_000 && request::serve(&mut reader, &mut writer, number)? {
         number += 1;
     }
+    Ok(())
 }

@@ -3,6 +3,8 @@
 // The head words: most, n, the row count; the lengths of the row starts, the columns, the L subscripts, the U subscripts, l_starts, l_slots,
 // u_starts, u_slots, row_heads, row_links, set_heads, set_links, list and spare.
 use crate::{show, words};
+use std::io;
+use std::io::{Read, Write};
 
 // The longest parts that can be asked for: each one place past what a pattern of 1,025 columns, of 2,049 rows or of 16,385 entries needs, or more.
 const HEAD: usize = 17;
@@ -68,7 +70,8 @@ fn fits(head: &[usize]) -> bool {
 }
 
 // Shows the two sides' stores.
-fn show_results(
+fn show_results<W: Write>(
+    writer: &mut W,
     head: &[usize; HEAD],
     l_subs: &[usize],
     l_starts: &[usize],
@@ -76,13 +79,13 @@ fn show_results(
     u_subs: &[usize],
     u_starts: &[usize],
     u_slots: &[usize],
-) {
-    show::store(b"l_subs", part(l_subs, head, 5));
-    show::store(b"l_starts", part(l_starts, head, 7));
-    show::store(b"l_slots", part(l_slots, head, 8));
-    show::store(b"u_subs", part(u_subs, head, 6));
-    show::store(b"u_starts", part(u_starts, head, 9));
-    show::store(b"u_slots", part(u_slots, head, 10));
+) -> io::Result<()> {
+    show::store(writer, b"l_subs", part(l_subs, head, 5))?;
+    show::store(writer, b"l_starts", part(l_starts, head, 7))?;
+    show::store(writer, b"l_slots", part(l_slots, head, 8))?;
+    show::store(writer, b"u_subs", part(u_subs, head, 6))?;
+    show::store(writer, b"u_starts", part(u_starts, head, 9))?;
+    show::store(writer, b"u_slots", part(u_slots, head, 10))
 }
 
 // Whether the first places of a store, as many as a head word asks for, are zero.
@@ -91,7 +94,8 @@ fn zero(store: &[usize], head: &[usize; HEAD], at: usize) -> bool {
 }
 
 // Shows whether all six work stores are zero throughout.
-fn show_work(
+fn show_work<W: Write>(
+    writer: &mut W,
     head: &[usize; HEAD],
     row_heads: &[usize],
     row_links: &[usize],
@@ -99,14 +103,22 @@ fn show_work(
     set_links: &[usize],
     list: &[usize],
     spare: &[usize],
-) {
+) -> io::Result<()> {
     let rows = zero(row_heads, head, 11) & zero(row_links, head, 12);
     let sets = zero(set_heads, head, 13) & zero(set_links, head, 14);
-    show::work(rows & sets & zero(list, head, 15) & zero(spare, head, 16));
+    show::work(
+        writer,
+        rows & sets & zero(list, head, 15) & zero(spare, head, 16),
+    )
 }
 
 // Plans the pattern in parts of arrays of its own, of the lengths that the head asks for, and shows all of them.
-fn plan(head: &[usize; HEAD], starts: &[usize], columns: &[usize]) {
+fn plan<W: Write>(
+    writer: &mut W,
+    head: &[usize; HEAD],
+    starts: &[usize],
+    columns: &[usize],
+) -> io::Result<()> {
     let mut l_subs = [BEFORE; SUBSCRIPTS];
     let mut l_starts = [BEFORE; PLACES];
     let mut l_slots = [BEFORE; PLACES];
@@ -138,32 +150,44 @@ fn plan(head: &[usize; HEAD], starts: &[usize], columns: &[usize]) {
         front(&mut list, head, 15),
         front(&mut spare, head, 16),
     );
-    show::answer(answer);
+    show::answer(writer, answer)?;
     show_results(
-        head, &l_subs, &l_starts, &l_slots, &u_subs, &u_starts, &u_slots,
-    );
+        writer, head, &l_subs, &l_starts, &l_slots, &u_subs, &u_starts, &u_slots,
+    )?;
     show_work(
-        head, &row_heads, &row_links, &set_heads, &set_links, &list, &spare,
-    );
+        writer, head, &row_heads, &row_links, &set_heads, &set_links, &list, &spare,
+    )
 }
 
 // Reads the row starts and the columns, and has them planned if the input had them all, which it answers.
-fn read_pattern(head: &[usize; HEAD], starts: &mut [usize], columns: &mut [usize]) -> bool {
-    if words::fill(starts) < starts.len() {
-        return false;
+fn read_pattern<R: Read, W: Write>(
+    reader: &mut R,
+    writer: &mut W,
+    head: &[usize; HEAD],
+    starts: &mut [usize],
+    columns: &mut [usize],
+) -> io::Result<bool> {
+    if words::fill(reader, starts)? < starts.len() {
+        return Ok(false);
     }
-    if words::fill(columns) < columns.len() {
-        return false;
+    if words::fill(reader, columns)? < columns.len() {
+        return Ok(false);
     }
-    plan(head, starts, columns);
-    true
+    plan(writer, head, starts, columns)?;
+    Ok(true)
 }
 
 // Lends room for the pattern: parts of arrays of its own, of the lengths that the head gives.
-fn lend_pattern(head: &[usize; HEAD]) -> bool {
+fn lend_pattern<R: Read, W: Write>(
+    reader: &mut R,
+    writer: &mut W,
+    head: &[usize; HEAD],
+) -> io::Result<bool> {
     let mut starts = [BEFORE; ROWS];
     let mut columns = [BEFORE; COLUMNS];
     read_pattern(
+        reader,
+        writer,
         head,
         front(&mut starts, head, 3),
         front(&mut columns, head, 4),
@@ -171,15 +195,15 @@ fn lend_pattern(head: &[usize; HEAD]) -> bool {
 }
 
 // Reads and answers one request. It answers whether to go on: not at the end of the input, and not after a bad request.
-pub fn serve() -> bool {
+pub fn serve<R: Read, W: Write>(reader: &mut R, writer: &mut W) -> io::Result<bool> {
     let mut head = [0usize; HEAD];
-    let got = words::fill(&mut head);
+    let got = words::fill(reader, &mut head)?;
     if got == 0 {
-        return false;
+        return Ok(false);
     }
-    if got < HEAD || !fits(&head) || !lend_pattern(&head) {
-        show::bad_request();
-        return false;
+    if got < HEAD || !fits(&head) || !lend_pattern(reader, writer, &head)? {
+        show::bad_request(writer)?;
+        return Ok(false);
     }
-    true
+    Ok(true)
 }

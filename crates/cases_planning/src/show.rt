@@ -1,49 +1,51 @@
 // Lines on standard output.
 use answers::{PlanAnswer, Refusal};
-use libc::STDOUT_FILENO;
 use numbers::{count_numbers, number_and_step};
+use std::io;
+use std::io::Write;
+use streams::write_decimal;
 
 // A blank and a number. The number is cast here, and not in the loop of `store`, so that the cast is no part of that loop's proof.
-fn number(value: usize) {
-    io::write_all(STDOUT_FILENO, b" ");
-    io::print_decimal(STDOUT_FILENO, value as u64);
+fn number<W: Write>(writer: &mut W, value: usize) -> io::Result<()> {
+    writer.write_all(b" ")?;
+    write_decimal(writer, value as u64)
 }
 
 // The end of a line.
-fn end() {
-    io::write_all(STDOUT_FILENO, b"\n");
+fn end<W: Write>(writer: &mut W) -> io::Result<()> {
+    writer.write_all(b"\n")
 }
 
 // The line that ends the program early.
-pub fn bad_request() {
-    io::write_all(STDOUT_FILENO, b"bad request\n");
+pub fn bad_request<W: Write>(writer: &mut W) -> io::Result<()> {
+    writer.write_all(b"bad request\n")
 }
 
 // A store's name and every place of it.
-pub fn store(name: &[u8], places: &[usize]) {
-    io::write_all(STDOUT_FILENO, name);
+pub fn store<W: Write>(writer: &mut W, name: &[u8], places: &[usize]) -> io::Result<()> {
+    writer.write_all(name)?;
     let mut i = 0;
     while i < places.len() {
-        number(places[i]);
+        number(writer, places[i])?;
         i += 1;
     }
-    end();
+    end(writer)
 }
 
 // A refusal by its number, and its step.
-fn refused(refusal: Refusal) {
+fn refused<W: Write>(writer: &mut W, refusal: Refusal) -> io::Result<()> {
     let refused = number_and_step(refusal);
-    io::write_all(STDOUT_FILENO, b"refused");
-    number(refused.number);
-    number(refused.step);
-    end();
+    writer.write_all(b"refused")?;
+    number(writer, refused.number)?;
+    number(writer, refused.step)?;
+    end(writer)
 }
 
 // An answer; the counts stand in the order of the job program's line.
-pub fn answer(answer: PlanAnswer) {
+pub fn answer<W: Write>(writer: &mut W, answer: PlanAnswer) -> io::Result<()> {
     match answer {
-        PlanAnswer::Planned(counts) => store(b"plan", &count_numbers(counts)),
-        PlanAnswer::Refused(refusal) => refused(refusal),
+        PlanAnswer::Planned(counts) => store(writer, b"plan", &count_numbers(counts)),
+        PlanAnswer::Refused(refusal) => refused(writer, refusal),
     }
 }
 
@@ -60,10 +62,10 @@ pub fn is_zero(places: &[usize]) -> bool {
 }
 
 // The line on the work stores.
-pub fn work(zero: bool) {
+pub fn work<W: Write>(writer: &mut W, zero: bool) -> io::Result<()> {
     if zero {
-        io::write_all(STDOUT_FILENO, b"work zero\n");
+        writer.write_all(b"work zero\n")
     } else {
-        io::write_all(STDOUT_FILENO, b"work DIRTY\n");
+        writer.write_all(b"work DIRTY\n")
     }
 }

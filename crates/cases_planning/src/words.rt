@@ -1,4 +1,7 @@
 // Standard input as words of two bytes, low byte first.
+use std::io;
+use std::io::Read;
+use streams::read_full;
 
 // The next word, or that the input has ended.
 #[derive(Clone, Copy)]
@@ -18,24 +21,24 @@ fn joined(bytes: &[u8; 2]) -> usize {
 }
 
 // One word is read at a time: the program then needs no buffer that would limit the length of its input.
-fn next() -> Word {
+fn next<R: Read>(reader: &mut R) -> io::Result<Word> {
     let mut bytes = [0u8; 2];
-    let got = io::read_full(libc::STDIN_FILENO, &mut bytes);
+    let got = read_full(reader, &mut bytes)?;
     if got < 2 {
-        return Word::End;
+        return Ok(Word::End);
     }
-    Word::Value(joined(&bytes))
+    Ok(Word::Value(joined(&bytes)))
 }
 
 // Fills `out` with words, and answers how many there were: fewer than its length where the input ends.
-pub fn fill(out: &mut [usize]) -> usize {
+pub fn fill<R: Read>(reader: &mut R, out: &mut [usize]) -> io::Result<usize> {
     let mut i = 0;
     while i < out.len() {
-        let Word::Value(value) = next() else {
-            return i;
+        let Word::Value(value) = next(reader)? else {
+            return Ok(i);
         };
         out[i] = value;
         i += 1;
     }
-    i
+    Ok(i)
 }

@@ -1,4 +1,7 @@
 // Standard input, a request at a time.
+use std::io;
+use std::io::Read;
+use streams::read_full;
 
 // A request: a byte that says what is asked, and two numbers.
 #[derive(Clone, Copy)]
@@ -38,16 +41,16 @@ fn second_number(bytes: &[u8; WHOLE]) -> usize {
 }
 
 // The next request. Of one that is cut short the bytes that are missing are 0.
-pub fn next() -> Request {
+pub fn next<R: Read>(reader: &mut R) -> io::Result<Request> {
     let mut bytes = [0u8; WHOLE];
-    let count = io::read_full(libc::STDIN_FILENO, &mut bytes);
+    let count = read_full(reader, &mut bytes)?;
     let kind = bytes[0];
     let member = first_number(&bytes);
     let updates = second_number(&bytes);
-    Request {
+    Ok(Request {
         bytes: count,
         kind,
         member,
         updates,
-    }
+    })
 }

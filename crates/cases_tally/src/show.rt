@@ -1,65 +1,63 @@
 // Lines on standard output.
-use libc::STDOUT_FILENO;
+use std::io;
+use std::io::Write;
+use streams::write_decimal;
 use tally::{Tally, TallyAnswer};
 
 // A blank and a number.
-fn number(value: u64) {
-    io::write_all(STDOUT_FILENO, b" ");
-    io::print_decimal(STDOUT_FILENO, value);
+fn number<W: Write>(writer: &mut W, value: u64) -> io::Result<()> {
+    writer.write_all(b" ")?;
+    write_decimal(writer, value)
 }
 
 // A blank and a counter.
-fn counter(value: u32) {
-    number(value as u64);
+fn counter<W: Write>(writer: &mut W, value: u32) -> io::Result<()> {
+    number(writer, value as u64)
 }
 
 // All counters, and the end of the line.
-fn counters(tally: Tally) {
+fn counters<W: Write>(writer: &mut W, tally: Tally) -> io::Result<()> {
     let held = tally.counters;
     let mut t = 0;
     while t < tally::MEMBERS {
-        counter(held[t]);
+        counter(writer, held[t])?;
         t += 1;
     }
-    io::write_all(STDOUT_FILENO, b"\n");
+    writer.write_all(b"\n")
 }
 
 // The line that ends the program early.
-pub fn bad_request() {
-    io::write_all(STDOUT_FILENO, b"bad request\n");
+pub fn bad_request<W: Write>(writer: &mut W) -> io::Result<()> {
+    writer.write_all(b"bad request\n")
 }
 
 // The line of a record that was made.
-pub fn record(made: Tally) {
-    io::write_all(STDOUT_FILENO, b"record");
-    counters(made);
+pub fn record<W: Write>(writer: &mut W, made: Tally) -> io::Result<()> {
+    writer.write_all(b"record")?;
+    counters(writer, made)
 }
 
 // The line of a call: what was asked.
-pub fn asked(member: usize, updates: usize) {
-    io::write_all(STDOUT_FILENO, b"add");
-    number(member as u64);
-    number(updates as u64);
+pub fn asked<W: Write>(writer: &mut W, member: usize, updates: usize) -> io::Result<()> {
+    writer.write_all(b"add")?;
+    number(writer, member as u64)?;
+    number(writer, updates as u64)
 }
 
 // What was answered: the member's new sum, or a refusal with its step.
-pub fn answered(answer: TallyAnswer) {
+pub fn answered<W: Write>(writer: &mut W, answer: TallyAnswer) -> io::Result<()> {
     match answer {
         TallyAnswer::Sum(sum) => {
-            io::write_all(STDOUT_FILENO, b" granted");
-            counter(sum);
+            writer.write_all(b" granted")?;
+            counter(writer, sum)
         }
-        TallyAnswer::NoMember => {
-            io::write_all(STDOUT_FILENO, b" refused 27 0");
-        }
-        TallyAnswer::Full => {
-            io::write_all(STDOUT_FILENO, b" refused 19 0");
-        }
+        TallyAnswer::NoMember => writer.write_all(b" refused 27 0"),
+        TallyAnswer::Full => writer.write_all(b" refused 19 0"),
     }
 }
 
 // What the record holds afterwards.
-pub fn holds(after: Tally) {
-    io::write_all(STDOUT_FILENO, b" holds");
-    counters(after);
+pub fn holds<W: Write>(writer: &mut W, after: Tally) -> io::Result<()> {
+    writer.write_all(b" holds")?;
+    counters(writer, after)
 }

@@ -2,6 +2,8 @@
 ghost use Rattle.std.specs.Prelude.{length};
 ghost use Rattle.program.specs.Input.{InRoom};
 
+use std::io::Read;
+
 // How many bytes were read, or that a read failed.
 #[derive(Clone, Copy)]
 pub enum Input {
@@ -10,23 +12,22 @@ pub enum Input {
 }
 
 // One read: how many bytes came, none at the end of the input.
-fn read_some(part: &mut [u8]) -> Input
+fn read_some<R: Read>(reader: &mut R, part: &mut [u8]) -> Input
     ensures { InRoom (length part.old) result }
 {
-    let got = libc::read(libc::STDIN_FILENO, part);
-    if got < 0 {
-        return Input::Failed;
+    match reader.read(part) {
+        Ok(count) => Input::Whole(count),
+        Err(_) => Input::Failed,
     }
-    Input::Whole(io::count(got, part))
 }
 
 // Reads until the input ends or the store is full. A pipe may bring the bytes in pieces; a read that fails is no end of the input.
-pub fn read_input(store: &mut [u8]) -> Input
+pub fn read_input<R: Read>(reader: &mut R, store: &mut [u8]) -> Input
     ensures { InRoom (length store.old) result }
 {
     let mut done = 0;
     while done < store.len() {
-        let got = read_some(&mut store[done..]);
+        let got = read_some(reader, &mut store[done..]);
         let Input::Whole(more) = got else {
             return Input::Failed;
         };

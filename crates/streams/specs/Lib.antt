@@ -1,0 +1,2 @@
+-- Numbers as they are printed.
+pub mod Numbers
