@@ -1,4 +1,6 @@
 // The report's 2.4.
+#![tactic(auto)]
+
 mod collecting;
 
 pub use collecting::collect_steps;

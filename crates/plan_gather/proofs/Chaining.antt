@@ -13,14 +13,14 @@ use lib.Seq.{slice, slice-cons, length-slice}
 use borrow.Author.Tests.{eqb-true, eqb-false, eq-eqb, ne_eqb, lt-ltb}
 use Rattle.lists.specs.Functions.{update, keep, total, span}
 use Rattle.lists.specs.Sets.{member, Ascending, run, upto, between, first, least_above, Falling}
-use Rattle.lists.proofs.Members.{by_test, not-member-nil, in_upto, upto-low, upto-high, kept_in, kept_passes, in_keep, in_between, between-low, between-high}
+use Rattle.lists.proofs.Members.{by_test, not-member-nil, in_upto, kept_in, kept_passes, in_keep, in_between, between-low, between-high}
 use Rattle.lists.proofs.Order.{member_first, same_members-by, ascending-keep, ascending-between}
 use Rattle.lists.proofs.Kept.{keep_all, keep-nothing, leave_first}
-use Rattle.lists.proofs.Least.{least-member, least_above_lem, least_nonzero_member}
+use Rattle.lists.proofs.Least.{least_nonzero_member}
 use Rattle.lists.proofs.Once.{falling-once, falling_weaken, ascending-once}
-use Rattle.lists.proofs.Places.{index_below, length-upto, update_same, update-untouched}
+use Rattle.lists.proofs.Places.{update_same, update-untouched}
 use Rattle.lists.proofs.Small.{less_one}
-use Rattle.lists.proofs.Counting.{total_cong, total-le, total_constant, total-within}
+use Rattle.lists.proofs.Counting.{total_cong, total-within}
 use Rattle.foundation.specs.Pattern.{Lent, lent, row_of, pattern_of, starts_fit, max_entries}
 use Rattle.foundation.specs.Plan.{Planning, Side, lower, upper, list, after, plan}
 use Rattle.foundation.specs.Subscripts.{kept}

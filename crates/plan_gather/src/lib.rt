@@ -1,4 +1,6 @@
 // What the steps of a plan go by: the rows by their least column, the sets S, the lists without the step at hand.
+#![tactic(auto)]
+
 mod first;
 mod rows;
 mod sets;

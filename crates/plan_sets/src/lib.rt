@@ -1,4 +1,6 @@
 // The report's 2.5.
+#![tactic(auto)]
+
 mod updating;
 
 pub use updating::update_sets;

@@ -1,4 +1,6 @@
 // A list and the stores of its side: how much of it stands at their end already, how the rest is written, and whether it stands there.
+#![tactic(auto)]
+
 mod compare;
 mod share;
 mod write;

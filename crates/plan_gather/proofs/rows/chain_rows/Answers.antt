@@ -1,9 +1,9 @@
 -- `chain_rows` meets its contract: the rows behind row i stand in the chains of their least columns.
-use mathlib.Core.Path.{◌≡◌, ap, ◌∙◌}
-use Prim.Native.Nat.{ℕ, suc, ◌-◌, zero-le}
+use mathlib.Core.Path.{ap, ◌∙◌}
+use Prim.Native.Nat.{ℕ, zero-le}
 use native.Mathlib.Nat.{le_refl, le_trans, le_antisymm, sub-le}
 use native.Mathlib.Omega.{arith}
-use lib.ListN.{length, replicate}
+use lib.ListN.{replicate}
 use borrow.Author.Count.{falls_down}
 use Rattle.foundation.specs.Pattern.{lent}
 use Rattle.plan_gather.specs.Ready.{lent_by}

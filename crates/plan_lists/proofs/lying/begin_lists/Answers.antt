@@ -9,9 +9,9 @@ pub returns : goal.returns
 unfolding omit keep so_far initialized after_initialization
 returns c =
     λ p k row lowers uppers l u read. record {
-  lower_size = l;
-  upper_size = u;
-  lower_lies = grown_none p.height lowers l;
-  upper_lies = grown_none p.height uppers u;
-  counted = read;
-}
+      lower_size = l;
+      upper_size = u;
+      lower_lies = grown_none p.height lowers l;
+      upper_lies = grown_none p.height uppers u;
+      counted = read;
+    }

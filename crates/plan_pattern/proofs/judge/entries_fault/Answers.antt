@@ -1,6 +1,5 @@
 -- The loop's invariant: the first fault of what is still to come, behind the column before, is the first fault of all.
 use mathlib.Core.Path.{sym, ◌∙◌}
-use Prim.Native.Nat.{◌-◌}
 use borrow.Author.Rules.{rules}
 use Rattle.plan_pattern.proofs.Judging.{below_here, above_here, again_here, passes_here, faults_nowhere}
 use Rattle.plan_pattern.proofs.judge.entries_fault.Goals as goal

@@ -1,6 +1,5 @@
 -- The loop's invariant: x is among what is still to come just where it is in the list.
 use mathlib.Core.Path.{sym, ◌∙◌}
-use Prim.Native.Nat.{◌-◌}
 use borrow.Author.Rules.{rules}
 use Rattle.plan_pattern.proofs.Judging.{has_here, lacks_here, has_nowhere}
 use Rattle.plan_pattern.proofs.judge.has_member.Goals as goal

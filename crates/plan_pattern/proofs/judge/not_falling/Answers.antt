@@ -1,6 +1,5 @@
 -- The loop's invariant: the judgement of what is still to come, from the last start on, is the judgement of all.
 use mathlib.Core.Path.{sym, ◌∙◌}
-use Prim.Native.Nat.{◌-◌}
 use borrow.Author.Rules.{rules}
 use Rattle.plan_pattern.proofs.Judging.{falls_here, rises_here, falls_nowhere}
 use Rattle.plan_pattern.proofs.judge.not_falling.Goals as goal

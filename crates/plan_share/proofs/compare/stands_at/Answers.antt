@@ -1,6 +1,6 @@
 -- `stands_at` meets its contract. The loop's invariant: the list's first i numbers stand at their places in the store.
 use mathlib.Core.Path.{◌≡◌, sym}
-use Prim.Native.Nat.{ℕ, ◌+◌, ◌-◌, ◌<◌, zero-le}
+use Prim.Native.Nat.{ℕ, ◌+◌, ◌<◌, zero-le}
 use native.Mathlib.Nat.{le_of_lt, lt_of_lt_of_le}
 use lib.ListN.{length, get_or}
 use borrow.Author.Count.{falls, below_none, below_more}
