@@ -2,6 +2,8 @@
 //
 // In C a slice is a pointer and then its length in elements. Every function takes any lengths and any numbers, and has the contract of the call that it makes;
 // the answer is told in numbers, in the store `answer` and by what is returned. docs/CALLS.md has a table for each function.
+#![tactic(auto)]
+
 mod choices;
 pub mod loaded;
 pub mod offset_read;

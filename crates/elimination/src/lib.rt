@@ -1,6 +1,8 @@
 // The elimination in planned slots: a run by the largest entry or by a given list of rows, whole or cut to its first steps.
 //
 // A run goes by a lent plan. That it is this pattern's plan is what `planning::verify` says, and nothing else of planning is used.
+#![tactic(auto)]
+
 ghost use Rattle.foundation.specs.Pattern.{lent};
 ghost use Rattle.answers.specs.Stores.{plan_stores, lent_plan};
 ghost use Rattle.answers.specs.Runs.{chosen_by, extent_of};

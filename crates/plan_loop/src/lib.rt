@@ -1,4 +1,6 @@
 // All steps of planning, in lent stores.
+#![tactic(auto)]
+
 mod steps;
 
 pub use steps::{Ended, plan_steps};

@@ -8,7 +8,7 @@ use lib.ListN.{get_or}
 use Rattle.lists.specs.Functions.{keep, empty}
 use Rattle.lists.proofs.Members.{by_test}
 use Rattle.foundation.specs.Pattern.{Lent, pattern_of}
-use Rattle.foundation.specs.Plan.{lower, upper, influenced, collected_if_influenced, after, after_rows, after_test, after_steps, plan}
+use Rattle.foundation.specs.Plan.{influenced, collected_if_influenced, after, after_rows, after_test, after_steps, plan}
 use Rattle.foundation.specs.Subscripts.{only, sole_step}
 use Rattle.foundation.proofs.InStep.{rows-met, rows-sets}
 use Rattle.foundation.proofs.Steps.{S-frame}

@@ -7,7 +7,6 @@ use lib.ListN.{length, replicate}
 use Rattle.foundation.specs.Answer.{Answer, refused, granted, and_then, result_store, work_store}
 use Rattle.foundation.specs.Pattern.{Lent, lent}
 use Rattle.foundation.specs.Plan.{Planning, Side, lower, upper}
-use Rattle.foundation.specs.Slots.{slot_starts}
 use Rattle.foundation.specs.PlanCall.{Counts, PlanStores, SideStores, subscripts, counts_of, planned, plan_answer, subscripts_after, starts_after, slot_starts_after, side_after, plan_leaves}
 use Rattle.answers.specs.Answers.{refusal_of, answer_of}
 use Rattle.answers.specs.Stores.{plan_stores, WorkStores, work_stores, work_sizes, WorkLeft, side_stores}

@@ -2,6 +2,8 @@
 //
 // `plan` makes the plan of a pattern in stores that the caller lends, or refuses; `verify` says whether a lent plan is this pattern's. What
 // they promise is in specs/Calls.antt. Both take any input: whatever stands in the stores at entry.
+#![tactic(auto)]
+
 ghost use Rattle.foundation.specs.Pattern.{lent};
 ghost use Rattle.answers.specs.Stores.{plan_stores, lent_plan, work_stores};
 ghost use Rattle.planning.specs.Calls.{PlanKept, VerifyKept};

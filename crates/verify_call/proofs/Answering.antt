@@ -2,7 +2,7 @@
 use mathlib.Core.Bool.{Bool, true, false}
 use mathlib.Core.List.{List}
 use mathlib.Core.Path.{◌≡◌, refl, sym, ap, subst, ◌∙◌}
-use Prim.Native.Nat.{ℕ, suc, ◌-◌, ◌<◌}
+use Prim.Native.Nat.{ℕ, suc, ◌<◌}
 use native.Mathlib.Omega.{arith}
 use lib.ListN.{length, get_or}
 use borrow.Author.Tests.{ne_eqb}
@@ -10,7 +10,7 @@ use Rattle.lists.proofs.Members.{and_left, and_right, and_both, fails}
 use Rattle.foundation.specs.Answer.{refused, granted, refuse_if, and_then}
 use Rattle.foundation.specs.Pattern.{Lent, lent, pattern_of, pattern_fault, judged}
 use Rattle.foundation.specs.Plan.{Planning, lower, upper, after}
-use Rattle.foundation.specs.Slots.{slots_of, slot_starts}
+use Rattle.foundation.specs.Slots.{slots_of}
 use Rattle.foundation.specs.PlanCall.{Counts, LentPlan, WorkSizes, subscripts, counts_of, sizes_fit, same_counts, same_side, agrees, held_if, held}
 use Rattle.answers.specs.Answers.{counted, counts_in, refusal_of, verify_answer_of, verify_answer}
 use Rattle.answers.specs.Stores.{lent_plan, plan_stores, work_sizes, work_stores}

@@ -1,4 +1,6 @@
 // All steps of a lent plan compared with a pattern's plan.
+#![tactic(auto)]
+
 mod steps;
 
 pub use steps::{Compared, verify_steps};

@@ -21,12 +21,11 @@ pub follow_sole-requires : goal.follow_sole-requires
 follow_sole-requires c = sole-read c.requires.1 c.in-Sole.is
 
 pub place-requires : goal.place-requires
-place-requires c =
-    (
-      _,
-      _,
-      own_new c.requires.1 c.in-Row.is c.after_first.ensures,
-    )
+place-requires c = (
+  _,
+  _,
+  own_new c.requires.1 c.in-Row.is c.after_first.ensures,
+)
 
 pub place-requires-in-Grown : goal.place-requires-in-Grown
 place-requires-in-Grown c = (_, _, grown-new c.requires.1 c.in-Grown.is)

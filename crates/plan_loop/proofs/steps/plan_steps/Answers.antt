@@ -1,7 +1,6 @@
 -- `plan_steps` meets its contract. The loop's invariant: the steps before k are done, in stores of the sizes that were lent;
 -- its measure: the steps to come.
 use mathlib.Core.Path.{refl, ◌∙◌}
-use Prim.Native.Nat.{◌-◌}
 use native.Mathlib.Omega.{arith}
 use Rattle.foundation.specs.Pattern.{lent}
 use Rattle.plan_gather.specs.Ready.{lent_by}
@@ -10,13 +9,12 @@ use Rattle.plan_loop.proofs.steps.plan_steps.Goals as goal
 
 pub loop-k-init : goal.loop-k-init
 unfolding lent_by lent
-loop-k-init c =
-    (
-      steps_start refl refl c.requires.ready c.requires.both_filled c.requires.list_len,
-      refl,
-      record { first = refl; second = refl; third = refl; fourth = refl; fifth = refl },
-      record { first = refl; second = refl; third = refl; fourth = refl; fifth = refl },
-    )
+loop-k-init c = (
+  steps_start refl refl c.requires.ready c.requires.both_filled c.requires.list_len,
+  refl,
+  record { first = refl; second = refl; third = refl; fourth = refl; fifth = refl },
+  record { first = refl; second = refl; third = refl; fourth = refl; fifth = refl },
+)
 
 pub plan_step-turned-requires : goal.plan_step-turned-requires
 plan_step-turned-requires c =

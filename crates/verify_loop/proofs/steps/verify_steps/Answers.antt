@@ -1,7 +1,6 @@
 -- `verify_steps` meets its contract. The loop's invariant: the lent stores contain the steps before k; its measure: the steps to
 -- come. Assumes nothing.
 use mathlib.Core.Path.{refl}
-use Prim.Native.Nat.{◌-◌}
 use native.Mathlib.Omega.{arith}
 use Rattle.foundation.specs.Pattern.{lent}
 use Rattle.plan_gather.specs.Ready.{lent_by}

@@ -58,8 +58,7 @@ pub overflow_add-result : goal.overflow_add-result
 overflow_add-result c = sum_fits c.requires.end_inside c.well_formed.1.1.1.0.1 (le_refl _) c.well_formed.1.1.0.1
 
 pub returns : goal.returns
-returns c =
-    (
+returns c = (
   refl,
   c.if-starts-k.false,
   c.if-slots-k.false,
