@@ -1,5 +1,5 @@
 -- `judging::in_order` meets its contract: each return knows what the tests before it said. Assumes nothing.
-use borrow.Author.Tests.{not-true, not-false}
+use borrow.Author.Rules.{rules}
 use Rattle.foundation.specs.Answer.{refuse_if}
 use Rattle.answers.specs.Runs.{reason_number}
 use Rattle.run_judge.specs.Judgement.{judgement_of, in_order}
@@ -7,22 +7,16 @@ use Rattle.run_judge.proofs.judging.in_order.Goals as goal
 
 pub returns-then-not-lends : goal.returns-then-not-lends
 unfolding judgement_of in_order refuse_if reason_number
-returns-then-not-lends c = rw (not-true c.args.lends c.if-not-lends.true-raw)
+returns-then-not-lends c = search rules
 
 pub returns-then-not-fine : goal.returns-then-not-fine
 unfolding judgement_of in_order refuse_if reason_number
-returns-then-not-fine c =
-    let a = c.args in
-    rw (not-false a.lends c.if-not-lends.false-raw, not-true a.fine c.if-not-fine.true-raw)
+returns-then-not-fine c = search rules
 
 pub returns-then-not-ordered : goal.returns-then-not-ordered
 unfolding judgement_of in_order refuse_if reason_number
-returns-then-not-ordered c =
-    let a = c.args in
-    rw (not-false a.lends c.if-not-lends.false-raw, not-false a.fine c.if-not-fine.false-raw, not-true a.ordered c.if-not-ordered.true-raw)
+returns-then-not-ordered c = search rules
 
 pub returns : goal.returns
 unfolding judgement_of in_order refuse_if
-returns c =
-    let a = c.args in
-    rw (not-false a.lends c.if-not-lends.false-raw, not-false a.fine c.if-not-fine.false-raw, not-false a.ordered c.if-not-ordered.false-raw)
+returns c = search rules

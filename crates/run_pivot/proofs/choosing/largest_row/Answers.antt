@@ -1,5 +1,4 @@
 -- `largest_row` meets its contract: the loop's invariant is `Seeking`.
-use mathlib.Core.Logic.{⊎_elim}
 use mathlib.Core.Path.{refl}
 use lib.Ieee.{of_bits}
 use lib.Ieee.Bits.{is_true}
@@ -7,6 +6,7 @@ use borrow.Author.Rules.{rules}
 use Rattle.run_pivot.proofs.Limit.{largest_faint}
 use Rattle.run_pivot.proofs.Seeking.{seeking_own, seeking_none, seeking_taken, seeking_left, seeking_end, seeking_named}
 use Rattle.run_pivot.proofs.choosing.largest_row.Goals as goal
+use Rattle.run_pivot.proofs.choosing.largest_row.Goals.{then-top, else-top, then-top-a, else-top-a}
 
 pub loop-q-init : goal.loop-q-init
 unfolding of_bits largest_faint
@@ -14,12 +14,12 @@ loop-q-init c =
     let e = c.size-top.ensures in (
       search rules,
       search rules,
-      ⊎_elim
-          (λ x. seeking_named _ _ _ _ _ _ _ _ _ _ _ x.row-is refl x.top-is (seeking_own c.args.k c.args.own _ _ c.requires.1 c.requires.3 c.well_formed.1.0.1
-          0 _ e x.if-top.true))
-          (λ x. seeking_named _ _ _ _ _ _ _ _ _ _ _ x.row-is refl x.top-is (seeking_none c.args.k c.args.own _ _ c.requires.1 c.requires.3 c.well_formed.1.0.1
-          0 _ e x.if-top.false))
-          c.if-top.branch-raw,
+      elim c.if-top.branch [
+        | then-top x ↦ seeking_named _ _ _ _ _ _ _ _ _ _ _ x.row-is refl x.top-is (seeking_own c.args.k c.args.own _ _ c.requires.1 c.requires.3 c.well_formed.1.0.1
+            0 _ e x.if-top.true)
+        | else-top x ↦ seeking_named _ _ _ _ _ _ _ _ _ _ _ x.row-is refl x.top-is (seeking_none c.args.k c.args.own _ _ c.requires.1 c.requires.3 c.well_formed.1.0.1
+            0 _ e x.if-top.false)
+      ],
     )
 
 pub loop-q-preserved : goal.loop-q-preserved
@@ -29,13 +29,13 @@ loop-q-preserved c =
     let e = c.size-a.ensures in (
       search rules,
       search rules,
-      let held = is_true _ (c.shared_slice_known-in-loop-q-1.given l.q) in
-          ⊎_elim
-          (λ x. seeking_named _ _ _ _ _ _ _ _ _ _ _ x.row-is x.place-is x.top-is (seeking_taken _ _ _ _ _ _ _ l.q l.invariant.2 l.invariant.1 p.2 p.4
-          (search rules) held _ e x.if-top-a.true))
-          (λ x. seeking_named _ _ _ _ _ _ _ _ _ _ _ x.row-is x.place-is x.top-is (seeking_left _ _ _ _ _ _ _ l.q l.invariant.2 l.invariant.1 p.2 p.4
-          (search rules) held _ e x.if-top-a.false))
-          c.if-top-a.branch-raw,
+      let held = is_true _ (c.type_inv.slots l.q) in
+          elim c.if-top-a.branch [
+            | then-top-a x ↦ seeking_named _ _ _ _ _ _ _ _ _ _ _ x.row-is x.place-is x.top-is (seeking_taken _ _ _ _ _ _ _ l.q l.invariant.2 l.invariant.1 p.2 p.4
+                (search rules) held _ e x.if-top-a.true)
+            | else-top-a x ↦ seeking_named _ _ _ _ _ _ _ _ _ _ _ x.row-is x.place-is x.top-is (seeking_left _ _ _ _ _ _ _ l.q l.invariant.2 l.invariant.1 p.2 p.4
+                (search rules) held _ e x.if-top-a.false)
+          ],
     )
 
 pub returns : goal.returns

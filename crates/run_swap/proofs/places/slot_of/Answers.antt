@@ -26,7 +26,7 @@ pub overflow_add-at : goal.overflow_add-at
 overflow_add-at c =
     let list = c.list_place-list.ensures in
     let f = slot-before _ _ _ c.requires _ _ _ _ list _ c.place_by.ensures in
-    record { fits = omega (arith, f, list.next_is, c.shared_slice_known-3-1.given c.args.h) }
+    record { fits = omega (arith, f, list.next_is, c.type_inv.slots c.args.h) }
 
 pub returns : goal.returns
 returns c = λ w. slot-found _ _ _ w _ _ _ _ c.list_place-list.ensures _ c.place_by.ensures

@@ -6,18 +6,7 @@ use Rattle.store_search.proofs.Places.{halving_start}
 use Rattle.lists.proofs.Small.{least, less, next_le, room_same, below_fits, index-fits, next_fits}
 use Rattle.run_swap.proofs.Walks.{passed_more, found_there, found-behind, before-asks, before-own, before_other, before-turn, before-done}
 use Rattle.run_swap.proofs.swapping.swap_before.Goals as goal
-use Rattle.run_swap.proofs.swapping.swap_before.Lts as lts
-use Rattle.run_swap.proofs.swapping.swap_before.Reads as reads
-use Rattle.run_swap.proofs.swapping.swap_before.Tie as tie
-
-abbrev At-loop-t : Type 0
-At-loop-t = lts.At-loop tie.the-claims reads.Pre reads.Post goal.the-invariant-loop-t goal.the-decreases-loop-t
-
-abbrev Else-p-j : Type 0
-Else-p-j = lts.Else1 tie.the-claims reads.Pre reads.Post goal.the-invariant-loop-t goal.the-decreases-loop-t
-
-abbrev After-slot_of-slot : Type 0
-After-slot_of-slot = lts.After-slot_of tie.the-claims reads.Pre reads.Post goal.the-invariant-loop-t goal.the-decreases-loop-t
+use Rattle.run_swap.proofs.swapping.swap_before.Goals.{At-loop-t, Else-p-j, After-slot_of-slot}
 
 -- the slots of the two rows in the column at hand
 l-room : (c : At-loop-t) → length c.loop-t.l * 8 < 2 ^ 63
@@ -59,33 +48,33 @@ slot_of-slot-requires c =
     (c.loop-t.invariant.4 c.requires) c.loop-t-test.true c.if-p-j.false
 
 pub overflow_add-i : goal.overflow_add-i
-overflow_add-i c = below_fits (mine c.before.before.before) (u-room c.before.before.before.before.before.before)
+overflow_add-i c = below_fits (mine (goal.at.overflow_add-i c).Else-p-j) (u-room (goal.at.overflow_add-i c).At-loop-t)
 
 pub offset_bounds-u-i : goal.offset_bounds-u-i
-offset_bounds-u-i c = index-fits (mine c.before.before.before) (u-room c.before.before.before.before.before.before)
+offset_bounds-u-i c = index-fits (mine (goal.at.offset_bounds-u-i c).Else-p-j) (u-room (goal.at.offset_bounds-u-i c).At-loop-t)
 
 pub bounds-u-i : goal.bounds-u-i
-bounds-u-i c = mine c.before.before.before.before
+bounds-u-i c = mine (goal.at.bounds-u-i c).Else-p-j
 
 pub offset_bounds-l-q : goal.offset_bounds-l-q
-offset_bounds-l-q c = index-fits (other c.before.before.before) (l-room c.before.before.before.before.before.before.before)
+offset_bounds-l-q c = index-fits (other (goal.at.offset_bounds-l-q c).After-slot_of-slot) (l-room (goal.at.offset_bounds-l-q c).At-loop-t)
 
 pub bounds-l-q : goal.bounds-l-q
-bounds-l-q c = other c.before.before.before.before
+bounds-l-q c = other (goal.at.bounds-l-q c).After-slot_of-slot
 
 pub offset_bounds-u-i-in-loop-t : goal.offset_bounds-u-i-in-loop-t
 offset_bounds-u-i-in-loop-t c =
-    index-fits (mine c.before.before.before.before.before) (u-room c.before.before.before.before.before.before.before.before)
+    index-fits (mine (goal.at.offset_bounds-u-i-in-loop-t c).Else-p-j) (u-room (goal.at.offset_bounds-u-i-in-loop-t c).At-loop-t)
 
 pub bounds-u-i-in-loop-t : goal.bounds-u-i-in-loop-t
-bounds-u-i-in-loop-t c = mine c.before.before.before.before.before
+bounds-u-i-in-loop-t c = mine (goal.at.bounds-u-i-in-loop-t c).Else-p-j
 
 pub offset_bounds-l-q-in-loop-t : goal.offset_bounds-l-q-in-loop-t
 offset_bounds-l-q-in-loop-t c =
-    index-fits (other c.before.before.before.before) (l-room c.before.before.before.before.before.before.before.before)
+    index-fits (other (goal.at.offset_bounds-l-q-in-loop-t c).After-slot_of-slot) (l-room (goal.at.offset_bounds-l-q-in-loop-t c).At-loop-t)
 
 pub bounds-l-q-in-loop-t : goal.bounds-l-q-in-loop-t
-bounds-l-q-in-loop-t c = other c.before.before.before.before
+bounds-l-q-in-loop-t c = other (goal.at.bounds-l-q-in-loop-t c).After-slot_of-slot
 
 pub overflow_add-t : goal.overflow_add-t
 overflow_add-t c = next_fits c.loop-t-test.true c.well_formed.0.1

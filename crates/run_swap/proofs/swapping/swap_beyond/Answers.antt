@@ -6,15 +6,7 @@ use lib.ListN.{length, length-set}
 use Rattle.lists.proofs.Small.{less, next_le, room_same, below_fits, index-fits, next_fits}
 use Rattle.run_swap.proofs.Walks.{own-ascends, beyond-own, beyond_other, beyond-turn, beyond_end}
 use Rattle.run_swap.proofs.swapping.swap_beyond.Goals as goal
-use Rattle.run_swap.proofs.swapping.swap_beyond.Lts as lts
-use Rattle.run_swap.proofs.swapping.swap_beyond.Reads as reads
-use Rattle.run_swap.proofs.swapping.swap_beyond.Tie as tie
-
-abbrev In-loop-t : Type 0
-In-loop-t = lts.In-loop tie.the-claims reads.Pre reads.Post goal.the-invariant-loop-t goal.the-decreases-loop-t
-
-abbrev After-place_by-q : Type 0
-After-place_by-q = lts.After-place_by tie.the-claims reads.Pre reads.Post goal.the-invariant-loop-t goal.the-decreases-loop-t
+use Rattle.run_swap.proofs.swapping.swap_beyond.Goals.{In-loop-t, After-place_by-q}
 
 room : (c : In-loop-t) → length c.loop-t.u * 8 < 2 ^ 63
 room c = room_same c.loop-t.invariant.2 c.well_formed.1.1.1.1.1.1.0.1
@@ -42,40 +34,40 @@ pub place_by-q-requires : goal.place_by-q-requires
 place_by-q-requires c = own-ascends _ _ _ _ _ _ c.requires
 
 pub overflow_add-i : goal.overflow_add-i
-overflow_add-i c = below_fits (mine c.before.before.before.before) (room c.before.before.before.before)
+overflow_add-i c = below_fits (mine (goal.at.overflow_add-i c).In-loop-t) (room (goal.at.overflow_add-i c).In-loop-t)
 
 pub overflow_add-j : goal.overflow_add-j
-overflow_add-j c = below_fits (other c.before.before.before) (room c.before.before.before.before.before)
+overflow_add-j c = below_fits (other (goal.at.overflow_add-j c).After-place_by-q) (room (goal.at.overflow_add-j c).In-loop-t)
 
 pub offset_bounds-u-i : goal.offset_bounds-u-i
-offset_bounds-u-i c = index-fits (mine c.before.before.before.before.before) (room c.before.before.before.before.before)
+offset_bounds-u-i c = index-fits (mine (goal.at.offset_bounds-u-i c).In-loop-t) (room (goal.at.offset_bounds-u-i c).In-loop-t)
 
 pub bounds-u-i : goal.bounds-u-i
-bounds-u-i c = mine c.before.before.before.before.before.before
+bounds-u-i c = mine (goal.at.bounds-u-i c).In-loop-t
 
 pub offset_bounds-u-j : goal.offset_bounds-u-j
-offset_bounds-u-j c = index-fits (other c.before.before.before.before) (room c.before.before.before.before.before.before)
+offset_bounds-u-j c = index-fits (other (goal.at.offset_bounds-u-j c).After-place_by-q) (room (goal.at.offset_bounds-u-j c).In-loop-t)
 
 pub bounds-u-j : goal.bounds-u-j
-bounds-u-j c = other c.before.before.before.before.before
+bounds-u-j c = other (goal.at.bounds-u-j c).After-place_by-q
 
 pub offset_bounds-u-i-in-loop-t : goal.offset_bounds-u-i-in-loop-t
 offset_bounds-u-i-in-loop-t c =
-    index-fits (mine c.before.before.before.before.before.before.before) (room c.before.before.before.before.before.before.before)
+    index-fits (mine (goal.at.offset_bounds-u-i-in-loop-t c).In-loop-t) (room (goal.at.offset_bounds-u-i-in-loop-t c).In-loop-t)
 
 pub bounds-u-i-in-loop-t : goal.bounds-u-i-in-loop-t
-bounds-u-i-in-loop-t c = mine c.before.before.before.before.before.before.before
+bounds-u-i-in-loop-t c = mine (goal.at.bounds-u-i-in-loop-t c).In-loop-t
 
 pub offset_bounds-u-j-in-loop-t : goal.offset_bounds-u-j-in-loop-t
 offset_bounds-u-j-in-loop-t c =
-    index-fits (other c.before.before.before.before.before) (room c.before.before.before.before.before.before.before)
+    index-fits (other (goal.at.offset_bounds-u-j-in-loop-t c).After-place_by-q) (room (goal.at.offset_bounds-u-j-in-loop-t c).In-loop-t)
 
 pub bounds-u-j-in-loop-t : goal.bounds-u-j-in-loop-t
-bounds-u-j-in-loop-t c = simp length-set (other c.before.before.before.before.before)
+bounds-u-j-in-loop-t c = simp length-set (other (goal.at.bounds-u-j-in-loop-t c).After-place_by-q)
 
 pub overflow_add-next : goal.overflow_add-next
 overflow_add-next c =
-    next_fits (lt_of_le_of_lt (le-add_left _ _) (other c.before.before.before.before.before)) (room c.before.before.before.before.before.before.before)
+    next_fits (lt_of_le_of_lt (le-add_left _ _) (other (goal.at.overflow_add-next c).After-place_by-q)) (room (goal.at.overflow_add-next c).In-loop-t)
 
 pub overflow_add-t : goal.overflow_add-t
 overflow_add-t c = next_fits c.loop-t-test.true c.well_formed.0.1
