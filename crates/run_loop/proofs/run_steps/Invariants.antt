@@ -8,7 +8,8 @@ use Rattle.run_loop.proofs.run_steps.Given as goal
 
 abbrev pub invariant-loop-k : goal.invariant-loop-k
 invariant-loop-k l =
-    Underway l.count (chosen_by l.choice l.rows) (plan_stores l.l_subs l.l_starts l.l_slots l.u_subs l.u_starts l.u_slots) (run_stores l.initial.l l.initial.u l.initial.d l.initial.x l.initial.pivots) l.initial.copy l.initial.dense
+    Underway l.count (chosen_by l.choice l.rows) (plan_stores l.l_subs l.l_starts l.l_slots l.u_subs l.u_starts l.u_slots)
+    (run_stores l.initial.l l.initial.u l.initial.d l.initial.x l.initial.pivots) l.initial.copy l.initial.dense
     (run_stores l.l l.u l.d l.x l.pivots) l.copy l.dense l.updates l.k
 
 abbrev pub decreases-loop-k : goal.decreases-loop-k
