@@ -1,6 +1,6 @@
 // Standard input, read into a store.
 ghost use Rattle.std.specs.Prelude.{length};
-ghost use Rattle.program.specs.Input.{InRoom};
+ghost use Rattle.program.specs.Input.{InRoom, Brought, EndsAtNone, EndsShort};
 
 use std::io::Read;
 
@@ -13,7 +13,9 @@ pub enum Input {
 
 // One read: how many bytes came, none at the end of the input.
 fn read_some<R: Read>(reader: &mut R, part: &mut [u8]) -> Input
-    ensures { InRoom (length part.old) result }
+    ensures room { InRoom (length part.old) result }
+    ensures bytes { Brought (R.remaining reader.old) (R.remaining reader.new) part.new result }
+    ensures end { EndsAtNone (R.remaining reader.new) part.old result }
 {
     match reader.read(part) {
         Ok(count) => Input::Whole(count),
@@ -23,7 +25,9 @@ fn read_some<R: Read>(reader: &mut R, part: &mut [u8]) -> Input
 
 // Reads until the input ends or the store is full. A pipe may bring the bytes in pieces; a read that fails is no end of the input.
 pub fn read_input<R: Read>(reader: &mut R, store: &mut [u8]) -> Input
-    ensures { InRoom (length store.old) result }
+    ensures room { InRoom (length store.old) result }
+    ensures bytes { Brought (R.remaining reader.old) (R.remaining reader.new) store.new result }
+    ensures whole { EndsShort (R.remaining reader.new) store.old result }
 {
     let mut done = 0;
     while done < store.len() {

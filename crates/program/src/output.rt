@@ -1,6 +1,6 @@
 // What is handed to standard output.
 //
-// `libc::write`, and `io::write_all` over it, say nothing of what reaches a descriptor: what is stated here is which bytes they are handed.
+// std says nothing of what reaches standard output: what is stated here is which bytes are written to it.
 ghost use Rattle.std.specs.Prelude.{List, ◌≡◌, ℕ, take};
 ghost use Rattle.foundation.specs.Printing.{printed};
 ghost use Rattle.program.specs.Output.{AnswerTo};

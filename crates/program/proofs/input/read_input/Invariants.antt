@@ -1,10 +1,11 @@
--- As many bytes as were read stand in the store, and each turn that goes on leaves less of it.
-use Rattle.std.proofs.Common.{length, ◌-◌, ◌≡◌, ◌≤◌}
+-- What was read stands at the front of the store, and the reader has lost it; each turn that goes on leaves less to fill.
+use Rattle.std.proofs.Common.{length, take, ◌-◌, ◌≡◌, ◌≤◌}
+use Rattle.std.specs.Io.KnownBytes.{Consumes}
 use Rattle.program.proofs.input.read_input.Given as goal
 
 -- no more bytes than places, and the store keeps its length
 abbrev pub invariant-loop-done : goal.invariant-loop-done
-invariant-loop-done g l = (l.done ≤ length l.store) × (length l.store ≡ length l.initial.store)
+invariant-loop-done g l = (l.done ≤ length l.store) × (length l.store ≡ length l.initial.store) × Consumes (g.R.Read.remaining l.initial.reader) (g.R.Read.remaining l.reader) (take l.done l.store)
 
 abbrev pub decreases-loop-done : goal.decreases-loop-done
 decreases-loop-done g l = length l.store - l.done

@@ -1,0 +1,2 @@
+-- Reading in pieces.
+pub mod Reading
