@@ -1,16 +1,16 @@
 # The library for other languages, and what is made with it. Proofs and programs of the repository itself: see README.md.
 #
-#   make library       the archive, proved first                         target/staticlib/libdalumiveth.a
+#   make library       the archive, proved first                         crates/dalumiveth/out/libdalumiveth.a
 #   make shared        the same functions as a shared object             target/libdalumiveth.so
 #   make examples      the examples in C and Fortran, compared with what they must print
 #   make test-c        header and library from C, C++ and Fortran: fixed calls, random systems, offsets, tallies and test loads
 #   make test-python   the Python module (PYTHON=path of a Python with numpy)
-#   make test-tools    the program and the tools of tools/, once `rt check program` has built the program
+#   make test-tools    the program and the tools of tools/ (PROGRAM=path takes another program than crates/program/out/program)
 #   make bench         times beside other solvers
 #
 # LIBRARY=path takes another archive instead of the repository's. tools/test_callers.sh runs all tests over an archive that is made anew.
 
-OWN_LIBRARY := target/staticlib/libdalumiveth.a
+OWN_LIBRARY := crates/dalumiveth/out/libdalumiveth.a
 LIBRARY ?= $(OWN_LIBRARY)
 SHARED := target/libdalumiveth.so
 PYTHON ?= $(firstword $(wildcard /usr/bin/python3) python3)
@@ -19,10 +19,10 @@ PYTHON ?= $(firstword $(wildcard /usr/bin/python3) python3)
 
 library: $(LIBRARY)
 
-# An archive that is there is not made again: `rt staticlib` proves the library, which takes minutes. After a change of the library
-# remove it, or call `rt staticlib dalumiveth`.
+# An archive that is there is not made again: `rt lib` proves the library, which takes minutes. After a change of the library
+# remove it, or call `rt lib` in crates/dalumiveth.
 $(OWN_LIBRARY):
-	rt staticlib dalumiveth
+	cd crates/dalumiveth && rt lib
 
 shared: $(SHARED)
 

@@ -11,6 +11,7 @@ not. Of the free text this tool reads three kinds of line, and no other:
 
   # document 01, SECTION: WORDS     the sentence that the edit breaks, or the wrong program that it is; the first one is the edit's first line
   # document 02, TICKET: WORDS      the same, where a request of document 02 changed the sentence or made it
+                                    (in a crate that neither document speaks of, as `streams`: # WORDS)
   # WORDS                           one of the mistakes of the edit, where it has several
 
 It needs Python 3 and nothing else.
@@ -35,6 +36,9 @@ SECTIONS = {"01": ("Pattern", "Plan", "Shared subscripts", "Elimination", "Free 
 DEFINING = ("foundation", "lists")
 KINDS = ("code", "statement", "definition")
 
+# Crates that neither document speaks of: the first line of an edit there is '# WORDS'.
+UNNAMED = ("streams",)
+
 
 class BadEdit(Exception):
     """An edit that does not say what it shows, or that is stale."""
@@ -51,10 +55,11 @@ class Edit:
 
 
 def kind_of(crate, path, old):
-    """What a change is a change of. A contract in src/ is a statement: the code under it stays right, and has to miss the wrong contract."""
+    """What a change is a change of. A contract in src/ is a statement: the code under it stays right, and has to miss the wrong contract. In src/ only
+    contracts have signs as ≡ and ×."""
     if path.startswith("specs/"):
         return "definition" if crate in DEFINING else "statement"
-    if re.search(r"\b(ensures|requires)\b|⌜|⌝", old):
+    if re.search(r"\b(ensures|requires)\b|[^\x00-\x7f]", old):
         return "statement"
     return "code"
 
@@ -72,7 +77,10 @@ def read_edit(crate, name, text):
     """An edit from its text."""
     edit, path, old = Edit(crate, name), "", ""
     lines = text.splitlines()
-    if not lines or not SENTENCE.fullmatch(lines[0]):
+    if crate in UNNAMED and lines and lines[0].startswith("# ") and not SENTENCE.fullmatch(lines[0]):
+        edit.said.append((lines[0].removeprefix("# ").strip(), []))
+        lines = lines[1:]
+    elif not lines or not SENTENCE.fullmatch(lines[0]):
         raise BadEdit("the first line has to begin with '# document 01, ' or '# document 02, ' and to say what the edit shows")
     for line in lines:
         if line.startswith("file: "):

@@ -9,8 +9,9 @@ A function with a `requires` that another crate calls has to be `pub`, and whoev
    lists that one.
 2. An open function of a library for callers (any other crate with a src/lib.rt) has no `requires`, and has an `ensures`. Open are the functions
    marked `pub` in src/lib.rt and in its public modules, and those of private modules that a `pub use` names. An inner crate is not handed on
-   by `pub use`. A `pub use` that the fence cannot follow is a breach: one of several names, under another name, or of nothing that it finds.
-3. What a reader must believe does not rest on what only the prover reads: no file of specs/ or src/ cites a module of `proofs`.
+   by `pub use`. A `pub use` that the fence cannot follow is a breach: one of all names, under another name, of names in two pairs of braces, or of nothing
+   that it finds.
+3. What a reader must believe does not rest on what only the prover reads: no file of specs/ or src/ cites a module of the repository's `proofs`.
 
 Prints a line for each breach, and ends with status 1 if there is one.
 """
@@ -23,17 +24,19 @@ PART_OF = {"plan": "planning", "verify": "planning", "run": "elimination", "job"
 SHARED = "store"
 EXPORTED = "dalumiveth"
 KIT = ("std",)
+# A `pub use` that the fence does not read.
+NOT_READ = re.compile(r"\*|\bas\b|\{[^}]*\{")
 
 
 def listed():
-    """The crates of crates.txt, with what each lists."""
+    """The crates of crates.txt, with what each lists. Behind a name may stand what it is made to, as `staticlib`."""
     crates = {}
     with open("crates.txt") as file:
         for line in file:
             line = line.split("#")[0].strip()
             if line:
-                name, uses = line.split(":")
-                crates[name.strip()] = uses.split()
+                name, _, uses = line.partition(":")
+                crates[name.split()[0]] = uses.split()
     return crates
 
 
@@ -134,9 +137,23 @@ def source_folder(path):
 
 def handed_on_breaches(inside, path, names):
     """The breaches of one `pub use` of the file at `path`, whose modules are in the folder `inside`."""
-    if re.search(r"[{*]|\bas\b", names):
-        yield f"{path}: a pub use of several names at once or under another name, which the fence does not read"
+    if NOT_READ.search(names):
+        yield f"{path}: a pub use of all names, under another name or of names in two pairs of braces, which the fence does not read"
         return
+    for name in each_name(names):
+        yield from one_handed_on(inside, path, name)
+
+
+def each_name(names):
+    """What a `pub use` names, one by one: `m::{a, b}` is `m::a` and `m::b`."""
+    head, brace, listed_there = names.partition("{")
+    if not brace:
+        return [names.strip()]
+    return [head.strip() + name.strip() for name in listed_there.rstrip("} \n").split(",") if name.strip()]
+
+
+def one_handed_on(inside, path, names):
+    """The breaches of one name of a `pub use`."""
     parts = [part.strip() for part in names.split("::")]
     folder = source_folder(path) if parts[0] == "crate" else inside
     parts = parts[1:] if parts[0] in ("crate", "self") else parts
@@ -163,17 +180,21 @@ def opened_breaches(folder, path, parts):
         if re.search(rf"\bpub\s+mod\s+{parts[-1]}\s*;", text):
             yield from open_breaches(inside, parts[-1])
         for names in re.findall(r"\bpub\s+use\s+([^;]+);", text):
-            if names.split("::")[-1].strip() == parts[-1] or re.search(r"[{*]|\bas\b", names):
+            if NOT_READ.search(names):
                 yield from handed_on_breaches(inside, source, names)
+            else:
+                for name in each_name(names):
+                    if name.split("::")[-1] == parts[-1]:
+                        yield from one_handed_on(inside, source, name)
 
 
 def citing_breaches(name):
-    """The files of specs/ and src/ that cite a module of `proofs`."""
+    """The files of specs/ and src/ that cite a module of the repository's `proofs`; those of the kit's libraries hold definitions too."""
     for part in ("specs", "src"):
         for folder, _, files in os.walk(os.path.join("crates", name, part)):
             for path in (os.path.join(folder, file) for file in sorted(files) if file.endswith((".rt", ".antt"))):
                 for number, line in enumerate(without_comments(path).split("\n"), 1):
-                    if re.search(r"\bproofs\.", line):
+                    if re.search(r"\bproofs\.|\bproofs::", re.sub(rf"\bRattle\.(?:{'|'.join(KIT)})\.proofs\.", "", line)):
                         yield f"{path}:{number}: cites proofs: what it needs belongs in specs"
 
 

@@ -54,11 +54,18 @@ class Reading(unittest.TestCase):
             with self.assertRaises(edits.BadEdit, msg=text):
                 edits.read_edit("run_pivot", "ties", text)
 
+    def test_a_crate_that_no_document_speaks_of(self):
+        edit = edits.read_edit("streams", "ties", "# blanks, not zeros\n" + ONE.partition("\n")[2])
+        self.assertEqual((edit.said, edits.kinds_of(edit)), ([("blanks, not zeros", [])], "code"))
+        self.assertEqual(edits.read_edit("streams", "ties", ONE).said, [("Elimination: the lowest row number if equal; the highest taken", [])])
+        with self.assertRaises(edits.BadEdit):
+            edits.read_edit("streams", "ties", ONE.partition("\n")[2])
+
     def test_kinds(self):
         for crate, path, old, kind in (
                 ("foundation", "specs/Plan.antt", "x", "definition"), ("lists", "specs/Sets.antt", "x", "definition"),
-                ("planning", "specs/Calls.antt", "x", "statement"), ("planning", "src/lib.rt", "    requires { ⌜ a ⌝ }", "statement"),
-                ("planning", "src/lib.rt", "    ensures { λ r. ⌜ a", "statement"), ("planning", "src/lib.rt", "        (now x) ⌝ }", "statement"),
+                ("planning", "specs/Calls.antt", "x", "statement"), ("planning", "src/lib.rt", "    requires { a }", "statement"),
+                ("planning", "src/lib.rt", "    ensures told { a", "statement"), ("planning", "src/lib.rt", "        x.new ≡ y }", "statement"),
                 ("planning", "src/lib.rt", "    let ensured = a;", "code"), ("foundation", "src/lib.rt", "x", "code")):
             self.assertEqual(edits.kind_of(crate, path, old), kind, (crate, path, old))
 

@@ -8,8 +8,8 @@ import unittest
 
 import fence
 
-GOOD = "pub fn plan(n: usize) -> usize\n    ensures { λ r. ⌜ r ≡ n ⌝ }\n{\n    n\n}\n"
-ASKS = GOOD.replace("    ensures", "    requires { ⌜ 1 ≤ n ⌝ }\n    ensures")
+GOOD = "pub fn plan(n: usize) -> usize\n    ensures { result ≡ n }\n{\n    n\n}\n"
+ASKS = GOOD.replace("    ensures", "    requires low { 1 ≤ n }\n    ensures")
 SILENT = "pub fn plan(n: usize) -> usize {\n    n\n}\n"
 
 
@@ -123,7 +123,7 @@ class Contracts(Tree):
         self.assertBreach("no ensures", lib=SILENT.replace(" {", " // ensures { x }\n{"))
 
     def test_each_clause_is_read_to_its_end(self):
-        self.assertBreach("has a requires", lib=GOOD.replace("⌝ }\n", "⌝ × ({A : Type} → A) }\n    requires { ⌜ x ⌝ }\n"))
+        self.assertBreach("has a requires", lib=GOOD.replace("n }\n", "n × ({A : Type} → A) }\n    requires { x }\n"))
 
     def test_public_modules(self):
         self.assertBreach("src/side.rt: plan", lib="pub mod side;\n" + GOOD, side=ASKS)
@@ -161,8 +161,15 @@ class HandedOn(Tree):
         self.write("crates/lists/src/lib.rt", GOOD)
         self.assertEqual(self.breaches(lib="pub use lists::plan;\n"), [])
 
+    def test_several_names(self):
+        self.assertEqual(self.breaches(lib="mod side;\npub use side::{\n    plan, other,\n};\n", side=GOOD + ASKS.replace("plan", "third")), [])
+        self.assertBreach("src/side.rt: other", lib="mod side;\npub use side::{plan, other};\n", side=GOOD + ASKS.replace("plan", "other"))
+        self.assertBreach("src/side/deep.rt: plan", lib="mod side;\npub use side::plan;\n", side="mod deep;\npub use deep::{other, plan};\n", side__deep=ASKS)
+        self.assertBreach("hands an inner crate on", lib="pub use plan_call::{judge};\n")
+
     def test_what_the_fence_cannot_follow(self):
-        self.assertBreach("does not read", lib="mod side;\npub use side::{plan, other};\n", side=GOOD)
+        self.assertBreach("does not read", lib="mod side;\npub use side::{plan, deep::{other, third}};\n", side=GOOD)
+        self.assertBreach("does not read", lib="mod side;\npub use side::{plan as made};\n", side=GOOD)
         self.assertBreach("does not read", lib="mod side;\npub use side::*;\n", side=ASKS)
         self.assertBreach("does not read", lib="mod side;\npub use side::plan as made;\n", side=ASKS)
         self.assertBreach("does not find", lib="use plan_call as calls;\npub use calls::judge;\n")
@@ -171,20 +178,27 @@ class HandedOn(Tree):
 
 class Citing(Tree):
     def test_specs_and_code(self):
-        self.write("crates/lists/specs/Sets.antt", "-- see proofs.Members\nuse Rattle·lists·specs.specs.Functions.{keep}\n")
+        self.write("crates/lists/specs/Sets.antt", "-- see proofs.Members\nuse Rattle.lists.specs.Functions.{keep}\n")
         self.assertEqual(self.breaches(lib=GOOD), [])
-        self.write("crates/lists/specs/Deep/More.antt", "use Core.Bool.{true}\npub use Rattle·foundation.proofs.Steps.{marked}\n")
+        self.write("crates/lists/specs/Deep/More.antt", "use Rattle.std.specs.Prelude.{true}\npub use Rattle.foundation.proofs.Steps.{marked}\n")
         self.assertBreach("crates/lists/specs/Deep/More.antt:2: cites proofs", lib=GOOD)
 
     def test_without_a_use(self):
-        self.write("crates/lists/specs/Sets.antt", "f : Rattle·lists·proofs.proofs.Once.Falling\n")
+        self.write("crates/lists/specs/Sets.antt", "f : Rattle.lists.proofs.Once.Falling\n")
         self.assertBreach("Sets.antt:1", lib=GOOD)
 
     def test_code(self):
-        self.assertBreach("src/lib.rt:1: cites proofs", lib="ghost use Rattle·lists.proofs.Once.{Falling};\n" + GOOD)
+        self.assertBreach("src/lib.rt:1: cites proofs", lib="ghost use Rattle.lists.proofs.Once.{Falling};\n" + GOOD)
+
+    def test_a_tactic_on_a_function(self):
+        self.assertBreach("src/lib.rt:1: cites proofs", lib="#[tactic(auto, using(crate::proofs::Once::falls))]\n" + GOOD)
+
+    def test_the_kit(self):
+        self.write("crates/lists/specs/Sets.antt", "use Rattle.std.proofs.lemmas.List.Edits.{sets}\n")
+        self.assertEqual(self.breaches(lib=GOOD), [])
 
     def test_proofs_may(self):
-        self.write("crates/lists/proofs/Sets.antt", "use Rattle·lists·proofs.proofs.Once.{Falling}\n")
+        self.write("crates/lists/proofs/Sets.antt", "use Rattle.lists.proofs.Once.{Falling}\n")
         self.assertEqual(self.breaches(lib=GOOD), [])
 
 

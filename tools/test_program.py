@@ -1,9 +1,9 @@
 #!/usr/bin/env python3
 """Tests of the job program itself, on real input and output.
 
-  rt check program && python3 tools/test_program.py       (or PROGRAM=path python3 tools/test_program.py)
+  python3 tools/test_program.py       (or PROGRAM=path python3 tools/test_program.py)
 
-What it prints for the recorded jobs, for jobs that come in pieces, and what it
+The program is crates/program/out/program, which `rt run` makes in crates/program, and `rt ci` too. What it prints for the recorded jobs, for jobs that come in pieces, and what it
 does where reading or writing fails (docs/JOB.md).
 """
 import os
@@ -16,7 +16,7 @@ import unittest
 import cases_job
 
 HERE = os.path.dirname(os.path.abspath(__file__))
-PROGRAM = os.environ.get("PROGRAM", os.path.join(HERE, "..", "target", "bin", "program"))
+PROGRAM = os.environ.get("PROGRAM", os.path.join(HERE, "..", "crates", "program", "out", "program"))
 LISTING = ("plan 4 9 2 2 3 4 31\nrows 3 4 3 4\nx 1 3FF0000000000000\nx 2 3FF0000000000000\n"
            "x 3 3FF0000000000000\nx 4 3FF0000000000000\nupdates 3\n")
 CANNOT_READ, CANNOT_WRITE = b"job: standard input cannot be read\n", b"job: standard output cannot be written\n"
@@ -84,5 +84,5 @@ class Failures(unittest.TestCase):
 
 if __name__ == "__main__":
     if not os.path.isfile(PROGRAM):
-        sys.exit(f"test_program: there is no program {PROGRAM}: 'rt check program' builds it")
+        sys.exit(f"test_program: there is no program {PROGRAM}: 'rt run' in crates/program makes it")
     unittest.main()
