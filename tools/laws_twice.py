@@ -10,8 +10,8 @@ Of each crate's specs/ and proofs/ it compares, private or pub, up to the names 
   record      the fields' types, in their order
   definition  type and body (marked `unfoldable` or `abbrev`, or what gives data: a number, a list)
 
-and of src/ the functions, by parameters and body. Names are compared by what they mean in their file: through `use` and `pub use` to the module that declares them.
-Left out are statements about one function's walk (`tie.`), those behind a `where` that speak of their clause's own variables, short names for a term within
+and of src/ the functions, by parameters and body. Names are compared by what they mean in their file: through `use` and `pub use` to the module that declares them;
+the kit's names, which several of its modules hand on, by themselves. Left out are statements about the goals of one function (`goal.`, `lts.`), those behind a `where` that speak of their clause's own variables, short names for a term within
 a module, and definitions and functions of a few words.
 
 --check  end with status 1 if a group is not in tools/laws_twice_allowed.txt: a line for each, its members as they are printed in brackets, a colon and
@@ -32,18 +32,25 @@ FEW_WORDS = 4            # a definition's body below this says too little to be 
 FEW_CODE_WORDS = 25      # and so does a function's
 
 TOKEN = re.compile(r"[(){}\[\],;]|λ|\.[^\s(){}\[\],;.]+|[^\s(){}\[\],;λ]+|\.")
+GENERATED = ("goal", "lts", "reads", "tie")                                    # what a proof file calls the modules that are written for its function
 MARKS = r"(?:(?:pub|abbrev|unfoldable|private) )*"
 
 
 def words(text):
-    """The tokens of a term; the dot that ends the names of a `λ` stands alone."""
+    """The tokens of a term, a variable and each of its fields by itself; the dot that ends the names of a `λ` stands alone."""
     found = []
     for token in TOKEN.findall(text):
-        if len(token) > 1 and token.endswith(".") and not token.startswith("."):
-            found += [token[:-1], "."]
-        else:
-            found.append(token)
+        stops = len(token) > 1 and token.endswith(".") and not token.startswith(".")
+        found += fields_of(token[:-1] if stops else token) + ["."] * stops
     return found
+
+
+def fields_of(token):
+    """`w.plan.height` as `w`, `.plan`, `.height`; a name of a module, `Sets.member`, stays whole."""
+    head, *fields = re.split(r"(?<=[^.])\.(?=[^.])", token)
+    if token.startswith(".") or not re.match(r"[^\W\dA-Z]", head) or head in GENERATED:
+        return [token]
+    return [head] + [f".{field}" for field in fields]
 
 
 def without_comments(text):
@@ -132,7 +139,7 @@ class Module:
 
     def __init__(self, crate, name, path, text):
         self.crate, self.name, self.path = crate, name, path
-        self.full = f"Rattle·{crate}.{name}"
+        self.full = f"Rattle.{crate}.{name}"
         self.imports, self.handed_on, self.declared = {}, {}, []
         lines = [(number, line) for number, line in enumerate(without_comments(text).split("\n"), 1) if line.strip()]
         self.read_block(lines, [])
@@ -177,16 +184,17 @@ class Module:
             one.enclosing |= {word for word in pattern_of(clause) if word not in "(){}"}
 
     def read_use(self, text):
-        """`use M.{a, b}` and `use M as m`: what a, b, m mean here; `pub use` hands them on."""
+        """`use M.{a, b as c}` and `use M as m`: what a, c, m mean here; `pub use` hands them on."""
         found = re.match(r"(pub )?use (\S+?)(?:\.\{(.*)\}|\.\(.*\)| as (\S+))?$", text)
         if not found:
             return
-        source = re.sub(r"^(Rattle·\w+)·\w+", r"\1", found.group(2))
-        names = [name.strip() for name in (found.group(3) or "").split(",") if name.strip()]
-        for name in names:
-            self.imports[name] = f"{source}.{name}"
+        source = re.sub(r"^Rattle\.std\..*", "std", found.group(2))
+        names = [name.split() for name in (found.group(3) or "").split(",") if name.strip()]
+        for name, *renamed in names:
+            here = renamed[-1] if renamed else name
+            self.imports[here] = f"{source}.{name}"
             if found.group(1):
-                self.handed_on[f"{self.full}.{name}"] = f"{source}.{name}"
+                self.handed_on[f"{self.full}.{here}"] = f"{source}.{name}"
         if not names:
             self.imports[found.group(4) or source.split(".")[-1]] = source
 
@@ -216,7 +224,7 @@ class Tree:
 
     def meaning(self, module, word):
         """What a word means in a module: the full name of what it declares or uses, else the word itself."""
-        full = module.imports.get(word) or module.imports.get(f"_{word}_")
+        full = module.imports.get(word) or module.imports.get(f"◌{word}◌")
         if full is None and "." in word.strip("."):
             head, _, rest = word.partition(".")
             full = f"{module.imports[head]}.{rest}" if head in module.imports else None
@@ -320,7 +328,7 @@ class Tree:
             return "record" if one.fields else None
         if one.enclosing & self.own_words(one) or self.names_a_term(one):
             return None
-        if not one.clauses or any(word.startswith(("tie.", "statement")) or "-lts." in word for word in one.stated):
+        if not one.clauses or any(word.split(".")[0] in GENERATED or word.startswith("statement") for word in one.stated):
             return None
         conclusion = parts_of(one.stated)[-1]
         single = len(conclusion) == 1 and self.meaning(one.module, conclusion[0]) != conclusion[0]

@@ -4,7 +4,7 @@ import unittest
 
 from laws_twice import Module, Tree, code_groups, read_allowed
 
-HEAD = "use Core.Path.{_≡_}\nuse Core.List.{List, _++_, length}\nuse Nat.{ℕ, _+_, _≤_, suc}\nuse Rattle·lists·specs.specs.Sets.{member}\n\n"
+HEAD = "use Rattle.std.specs.Prelude.{◌≡◌, List, ◌++◌, length, ℕ, ◌+◌, ◌≤◌}\nuse Rattle.std.proofs.Common.{suc}\nuse Rattle.lists.specs.Sets.{member}\n\n"
 
 
 def groups(**files):
@@ -54,24 +54,39 @@ class Laws(unittest.TestCase):
     def test_names_mean_what_their_file_says(self):
         law = "f : (x : ℕ) (xs : List ℕ) → member x xs ≡ x\nf x xs = e\n"
         self.assertSame(law, law)
-        self.assertSame(law, "use Rattle·other.specs.Sets.{member}\n" + law, same=False)
-        self.assertSame(law, "use Rattle·lists.specs.Sets as Sets\n" + law.replace("member", "Sets.member"))
+        self.assertSame(law, "use Rattle.other.specs.Sets.{member}\n" + law, same=False)
+        self.assertSame(law, "use Rattle.lists.specs.Sets as Sets\n" + law.replace("member", "Sets.member"))
+
+    def test_one_name_of_the_kit_from_two_modules(self):
+        law = "f : (x : ℕ) (xs : List ℕ) → replicate x x ≡ xs\nf x xs = e\n"
+        self.assertSame("use Rattle.std.specs.Prelude.{replicate}\n" + law, "use Rattle.std.specs.List.{replicate}\n" + law)
+        self.assertSame("use Rattle.std.specs.List.{replicate}\n" + law, "use Rattle.lists.specs.Functions.{replicate}\n" + law, same=False)
+
+    def test_another_name_in_the_file(self):
+        law = "f : (x : ℕ) (xs : List ℕ) → has x xs ≡ x\nf x xs = e\n"
+        self.assertSame("use Rattle.lists.specs.Sets.{member as has}\n" + law, law.replace("has", "member"))
+
+    def test_fields(self):
+        law = "f : (w : Asks) (i : ℕ) → i ≤ w.count → i ≤ length w.plan.rows\nf w i h = e\n"
+        self.assertSame(law, law.replace("w ", "asked ").replace("w.", "asked.").replace("i ", "at "))
+        self.assertSame(law, law.replace(".rows", ".steps"), same=False)
 
     def test_handed_on_by_pub_use(self):
-        tree = Tree([Module("one", "proofs.A", "a", "pub use Rattle·lists.specs.Sets.{member}\n"),
-                     Module("one", "proofs.B", "b", "use Rattle·one·proofs.proofs.A.{member}\nf : (x : N) → member x ≡ x\nf x = e\n"),
-                     Module("two", "proofs.C", "c", "use Rattle·lists.specs.Sets.{member}\nf : (x : N) → member x ≡ x\nf x = e\n")])
+        tree = Tree([Module("one", "proofs.A", "a", "pub use Rattle.lists.specs.Sets.{member}\n"),
+                     Module("one", "proofs.B", "b", "use Rattle.one.proofs.A.{member}\nf : (x : N) → member x ≡ x\nf x = e\n"),
+                     Module("two", "proofs.C", "c", "use Rattle.lists.specs.Sets.{member}\nf : (x : N) → member x ≡ x\nf x = e\n")])
         self.assertEqual(len(list(tree.groups())), 1)
 
     def test_theorems_hand_laws_on(self):
         law = "pub low : (a : ℕ) → a ≤ suc a\nlow a = omega arith\n"
-        theorem = "use Rattle·one.proofs.Laws.{low}\npub claim : (b : ℕ) → b ≤ suc b\nclaim b = low b\n"
+        theorem = "use Rattle.one.proofs.Laws.{low}\npub claim : (b : ℕ) → b ≤ suc b\nclaim b = low b\n"
         for name, count in (("proofs.Theorems", 0), ("proofs.Others", 1)):
             tree = Tree([Module("one", "proofs.Laws", "a", HEAD + law), Module("one", name, "b", HEAD + theorem)])
             self.assertEqual(len(list(tree.groups())), count, name)
 
-    def test_a_need_is_no_law(self):
-        self.assertSame("f : tie.Need-returns\nf c = e\n", "f : tie.Need-returns\nf c = e\n", same=False)
+    def test_a_goal_is_no_law(self):
+        for stated in ("goal.returns", "(c : lts.After-fill goal.the-invariant) → length xs ≡ 0"):
+            self.assertSame(f"f : {stated}\nf c = e\n", f"f : {stated}\nf c = e\n", same=False)
 
     def test_behind_where(self):
         self.assertSame(self.FIRST,
@@ -82,7 +97,7 @@ class Laws(unittest.TestCase):
         self.assertSame(local, local.replace("g ", "f ").replace("a ≡ a", "suc a ≡ suc a"), same=False)
 
     def test_implicit_arguments_are_no_variables(self):
-        self.assertSame("f : (a : ℕ) → _≡_ {A = ℕ} a one\nf a = e\n", "f : (a : ℕ) → _≡_ {A = ℕ} a two\nf a = e\n", same=False)
+        self.assertSame("f : (a : ℕ) → ◌≡◌ {A = ℕ} a one\nf a = e\n", "f : (a : ℕ) → ◌≡◌ {A = ℕ} a two\nf a = e\n", same=False)
 
     def test_long_statements_and_comments(self):
         self.assertSame(self.FIRST, "-- why\ngrows :\n    (x y : ℕ) -- numbers\n    → x ≤ y\n    → suc x ≤ suc y\ngrows x y h = up h\n")
@@ -124,7 +139,7 @@ class Others(unittest.TestCase):
 
 
 class Code(unittest.TestCase):
-    ONE = """fn clear(store: &mut [usize]) ensures { λ r. ⌜ x ⌝ } {
+    ONE = """fn clear(store: &mut [usize]) ensures told { store.new ≡ x } {
         let mut i = 0; // from the front
         while i < store.len() { store[i] = 0; i = i + 1; }
     }"""
@@ -133,7 +148,7 @@ class Code(unittest.TestCase):
         return [members for _, _, members in code_groups([("one", "a.rt", one), ("two", "b.rt", two)])]
 
     def test_functions(self):
-        other = self.ONE.replace("clear", "wipe").replace("store", "list").replace(" i ", " at ").replace("[i]", "[at]").replace("⌜ x ⌝", "⌜ y ⌝")
+        other = self.ONE.replace("clear", "wipe").replace("store", "list").replace(" i ", " at ").replace("[i]", "[at]").replace("≡ x", "≡ y")
         self.assertEqual(self.found(self.ONE, other), [[("one/clear", "a.rt:1"), ("two/wipe", "b.rt:1")]])
 
     def test_what_differs(self):
