@@ -29,7 +29,6 @@ import argparse
 import concurrent.futures
 import hashlib
 import os
-import platform
 import re
 import shlex
 import shutil
@@ -89,20 +88,19 @@ class Kit:
     """How rt calls the prover."""
 
     def __init__(self, wrap):
-        rt = os.environ.get("RATTLE_HOME") and os.path.join(os.environ["RATTLE_HOME"], "bin", "rt") or shutil.which("rt")
+        rt = shutil.which("rt")
         if not rt:
             sys.exit("bend: no rt on the path")
         self.home = os.path.dirname(os.path.dirname(os.path.realpath(rt)))
-        self.own = os.path.join(self.home, "on", platform.machine())
         self.wrap = shlex.split(wrap)
 
     def check(self, tree):
         """Proves foundation, with lists as source, in one run over the tree's incremental folder."""
-        own = self.own
-        words = [os.path.join(own, "bin", "rattle"), "check", "--crate-name", "foundation", "foundation/src/lib.rt",
-                 "--extern", f"std={own}/rlib/std.rlib", "--lib", "lists=lists/src/lib.rt", "-L", f"dependency={own}/rlib",
-                 "--antt-project", f"{self.home}/logic/antt-project.json", "--logic-built", f"{own}/logic-built",
-                 "--incremental", "kept"]
+        home = self.home
+        words = [os.path.join(home, "bin", "rattle"), "check", "--crate-name", "foundation", "foundation/src/lib.rt",
+                 *[word for name in ("core", "std") for word in ("--extern", f"{name}={home}/rlibs/{name}.rlib")],
+                 "--lib", "lists:core,std=lists/src/lib.rt", "-L", f"dependency={home}/rlibs",
+                 "--antt-project", f"{home}/rattle/logic/antt-project.json", "--logic-built", f"{home}/logic_built", "--incremental", "kept"]
         done = subprocess.run(self.wrap + words, cwd=tree, stdout=subprocess.PIPE, stderr=subprocess.STDOUT, text=True)
         return done.returncode, done.stdout
 
