@@ -3,8 +3,8 @@
 
 `rt ci` checks a static library and makes no archive of it. `rt lib`, in crates/dalumiveth, makes one, but does not take the libraries of `rt ci`: in a new
 checkout it would prove all of them a second time. So the prover itself is called here, as `rt` calls it: it proves dalumiveth once more, over those libraries,
-and compiles it. Where `rt check` has left its own libraries there (they have a file out/rlib/stamp, and `rt ci` puts them back), `rt lib` is called, which makes anew what is
-not up to date.
+and compiles it. Where `rt check` has left its own libraries there (they have a file out/rlib/stamp, and `rt ci` puts them back), `rt lib` is called, which
+makes anew what is not up to date.
 """
 import os
 import shutil
