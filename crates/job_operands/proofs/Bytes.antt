@@ -1,46 +1,35 @@
 -- Numbers in their bytes, and the patterns of a NaN.
-use mathlib.Core.Path.{◌≡◌, refl, sym, ◌∙◌}
-use mathlib.Core.Bool.{Bool, true, false}
-use mathlib.Core.List.{List, [], ◌∷◌, ◌++◌}
-use Prim.Native.Nat.{ℕ, suc, ◌+◌, ◌*◌, ◌%◌, ◌≤◌, ◌<◌}
-use native.Mathlib.Numerals.{add-one}
-use native.Mathlib.Omega.{arith}
+use Rattle.std.proofs.Common.{◌≡◌, Bool, true, false, ℕ, zero, suc, ◌+◌, ◌*◌, ◌^◌, ◌%◌, ◌<◌, List, [], ◌∷◌, ◌++◌, length, take, get_or, refl, sym, ◌∙◌, arith, length-take-le}
+use Rattle.std.proofs.Math.Nat.{pow-suc}
+use Rattle.std.proofs.Math.Seq.{take-suc, take_all}
+use Rattle.std.specs.Int.{w16, w64, byte_worth, sum_through, from_le_bytes}
 use lib.Ieee.{Float, nan, inf, fin, is_nan, binary64, of_bits}
 use lib.Ieee.Bits.{nan_bits_is, nan_bits_above}
-use lib.ListN.{length, take, drop, get_or, length-drop}
-use lib.Seq.{drop-cons, take-add, drop-drop, length-take-le}
 use borrow.Author.Tests.{lt-ltb}
 use Rattle.foundation.specs.Job.{little_endian}
 use Rattle.foundation.specs.Numbers.{of_pattern}
 
--- two bytes
-pub little_two : (s : List ℕ) (at : ℕ) → at + 2 ≤ length s → little_endian (take 2 (drop at s)) ≡ get_or s at 0 + 256 * get_or s (at + 1) 0
-unfolding little_endian
-little_two s at h = rw (drop-cons s at 0 (omega arith), drop-cons s (suc at) 0 (omega arith), add-one) (omega arith)
+-- ---- numbers in their bytes
 
--- four bytes
-pub little_four : (s : List ℕ) (at : ℕ) → at + 4 ≤ length s
-    → little_endian (take 4 (drop at s)) ≡ get_or s at 0 + 256 * (get_or s (at + 1) 0 + 256 * (get_or s (at + 2) 0 + 256 * get_or s (at + 3) 0))
+-- one byte more
+little_more : (s : List ℕ) (b : ℕ) → little_endian (s ++ (b ∷ [])) ≡ little_endian s + b * 256 ^ length s
 unfolding little_endian
-little_four s at h =
-    let e : at + 2 ≡ suc (suc at) = omega arith in
-    let f : at + 3 ≡ suc (suc (suc at)) = omega arith in
-    rw (add-one, e, f, drop-cons s at 0 (omega arith), drop-cons s (suc at) 0 (omega arith), drop-cons s (suc (suc at)) 0 (omega arith), drop-cons s (suc (suc (suc at))) 0 (omega arith)) (omega arith)
+little_more [] b = omega arith
+little_more (a ∷ s) b = rw (little_more s b, pow-suc 256 (length s)) (omega arith)
 
--- four bytes and what follows them
-little_cut : (a b : List ℕ) → length a ≡ 4 → little_endian (a ++ b) ≡ little_endian a + 4294967296 * little_endian b
+-- the bytes up to place `last`, each by its worth
+little_sum : (s : List ℕ) (last : ℕ) → last < length s → sum_through (λ i. byte_worth i (get_or s i 0)) last ≡ little_endian (take (suc last) s)
 unfolding little_endian
-little_cut (a ∷ b ∷ c ∷ d ∷ []) s h = omega arith
-little_cut [] s h = omega arith
-little_cut (a ∷ []) s h = omega arith
-little_cut (a ∷ b ∷ []) s h = omega arith
-little_cut (a ∷ b ∷ c ∷ []) s h = omega arith
-little_cut (a ∷ b ∷ c ∷ d ∷ e ∷ r) s h = omega arith
+little_sum s zero h = rw (take-suc s 0 0 h) (omega arith)
+little_sum s (suc i) h =
+    rw (take-suc s (suc i) 0 h, little_more (take (suc i) s) (get_or s (suc i) 0), little_sum s i (omega arith), length-take-le (suc i) s (omega arith))
 
--- eight bytes are two halves
-pub little_eight : (s : List ℕ) (at : ℕ) → at + 8 ≤ length s
-    → little_endian (take 8 (drop at s)) ≡ little_endian (take 4 (drop at s)) + 4294967296 * little_endian (take 4 (drop (at + 4) s))
-little_eight s at h = rw (take-add 4 4 (drop at s), drop-drop 4 at s) (little_cut (take 4 (drop at s)) (take 4 (drop (at + 4) s)) (length-take-le 4 (drop at s) (simp length-drop (omega arith))))
+-- what std reads of two and of eight bytes
+pub little_two : (s : List ℕ) → length s ≡ 2 → from_le_bytes w16 s ≡ little_endian s
+little_two s h = rw (little_sum s 1 (omega arith), take_all 2 s (omega arith))
+
+pub little_eight : (s : List ℕ) → length s ≡ 8 → from_le_bytes w64 s ≡ little_endian s
+little_eight s h = rw (little_sum s 7 (omega arith), take_all 8 s (omega arith))
 
 -- ---- patterns
 

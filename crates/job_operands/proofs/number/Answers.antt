@@ -7,9 +7,9 @@ use Rattle.foundation.proofs.Bits.{pattern_number}
 use Rattle.job_operands.proofs.Bytes.{pattern-nan}
 use Rattle.job_operands.proofs.number.Goals as goal
 
-pub returns-then-bits-gt9218868437227405312 : goal.returns-then-bits-gt9218868437227405312
+pub returns-then-bits-gt-INFINITE : goal.returns-then-bits-gt-INFINITE
 unfolding div of_bits
-returns-then-bits-gt9218868437227405312 c = pattern-nan _ (search rules)
+returns-then-bits-gt-INFINITE c = pattern-nan _ (search rules)
 
 pub float_from_bits-result : goal.float_from_bits-result
 float_from_bits-result c = pattern_number _ (search rules)
