@@ -1,3 +1,2 @@
--- Laws of the commands.
+-- Laws of a job's commands.
 pub mod Commanding
-pub mod Bounds

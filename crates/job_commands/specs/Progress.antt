@@ -1,26 +1,11 @@
 -- How far reading has come, by the code's numbers and stores, and what each command makes of it.
-use Rattle.std.specs.Prelude.{◌≡◌, true, List, ℕ, suc, ◌*◌, ◌≤◌, ◌<◌, Float, take, drop}
+use Rattle.std.specs.Prelude.{suc, ◌≤◌, length, IfOk, Option, Some, None, Result, Ok, Err, take}
 use Rattle.foundation.specs.Answer.{refused, granted}
-use Rattle.foundation.specs.Job.{Reading, Next, more, over, job_of, max_job_bytes, max_job_n}
-use Rattle.job_commands.specs.Stores.{JobStores, stores_of}
-use Rattle.job_commands.specs.declared.Progress.{Progress}
-use Rattle.job_commands.specs.declared.Turn.{Turn}
-use Rattle.job_commands.specs.declared.Turn.TheVariants.{More, Refused, Done}
-
--- what the numbers keep to in a job of `size` bytes
-pub record InBounds (size : ℕ) (p : Progress) : Type 0 where
-  pub here : p.at ≤ size
-  pub small : p.n ≤ max_job_n
-  pub rows_left : p.closed ≤ p.n
-  pub picked : p.chosen ≤ p.n
-  pub bytes-used : 11 * p.entries ≤ p.at
-  pub row_left : p.opened ≡ true → p.closed < p.n
-
--- a byte is left, and the job is short enough
-pub record ByteLeft (size : ℕ) (p : Progress) : Type 0 where
-  pub sound : InBounds size p
-  pub byte_left : p.at < size
-  pub short : size ≤ max_job_bytes
+use Rattle.foundation.specs.Job.{Reading, Next, more, over, job_of}
+use Rattle.job_commands.specs.Stores.{JobStores}
+use Rattle.job_commands.specs.Refusal.{number_of}
+use Rattle.job_commands.specs.declared.progress.Progress.{Progress}
+use Rattle.job_commands.specs.declared.refusal.JobRefusal.{JobRefusal}
 
 -- what has been read
 unfoldable pub state : Progress → JobStores → Reading
@@ -35,24 +20,22 @@ state p s =
       rows = take p.chosen s.rows;
     }
 
--- the stores with others for entries, for a row's end, for P
-abbrev pub with_entries : JobStores → List ℕ → List Float → JobStores
-with_entries s columns values = stores_of s.starts columns values s.right s.rows
+-- what a command before Z came to, as the definition has it
+unfoldable pub going_on : Result Progress JobRefusal → JobStores → Next
+going_on (Ok p) s = more (state p s) p.bytes.now
+going_on (Err refusal) s = over (refused (number_of refusal) 0)
 
-abbrev pub with_ends : JobStores → List ℕ → List Float → JobStores
-with_ends s starts right = stores_of starts s.columns s.values right s.rows
+-- a command that goes on has no more bytes behind it than it was given
+abbrev pub NoLonger : Progress → Result Progress JobRefusal → Type 0
+NoLonger p r = IfOk r (λ q. length q.bytes.now ≤ length p.bytes.now)
 
-abbrev pub with_rows : JobStores → List ℕ → JobStores
-with_rows s rows = stores_of s.starts s.columns s.values s.right rows
+-- what Z came to, behind `p`
+unfoldable pub ending : Result Unit JobRefusal → Progress → JobStores → Next
+ending (Ok done) p s = over (granted (job_of (state p s)))
+ending (Err refusal) p s = over (refused (number_of refusal) 0)
 
--- what a command came to, as the definition has it
-unfoldable pub next_of : Turn → List ℕ → JobStores → Next
-next_of (More p) job s = more (state p s) (drop p.at job)
-next_of (Refused number) job s = over (refused number 0)
-next_of (Done p) job s = over (granted (job_of (state p s)))
-
--- reading that goes on has taken a byte and keeps to its bounds; when it is done, all rows are closed
-unfoldable pub Onward : ℕ → ℕ → Turn → Type 0
-Onward size at (More p) = (at < p.at) × InBounds size p
-Onward size at (Refused number) = Unit
-Onward size at (Done p) = InBounds size p × (p.closed ≡ p.n)
+-- what any command came to, behind `p`: how far reading is then, or that Z has ended it
+unfoldable pub next_of : Result (Option Progress) JobRefusal → Progress → JobStores → Next
+next_of (Ok (Some q)) p s = more (state q s) q.bytes.now
+next_of (Ok None) p s = over (granted (job_of (state p s)))
+next_of (Err refusal) p s = over (refused (number_of refusal) 0)

@@ -1,7 +1,6 @@
 -- The stores that a job is read into.
-use Rattle.std.specs.Prelude.{List, ℕ, ◌≤◌, Float, length}
-use Rattle.foundation.specs.Job.{max_job_n}
-use Rattle.job_sizes.specs.Sizes.{job_entries, more_than_n}
+use Rattle.std.specs.Prelude.{◌≡◌, List, ℕ, Float}
+use Rattle.job_commands.specs.declared.stores.LentStores.{LentStores}
 
 -- the five stores that a job is read into
 pub record JobStores : Type 0 where
@@ -14,10 +13,14 @@ pub record JobStores : Type 0 where
 abbrev pub stores_of : (starts columns : List ℕ) (values right : List Float) (rows : List ℕ) → JobStores
 stores_of starts columns values right rows = record { starts = starts; columns = columns; values = values; right = right; rows = rows }
 
--- they have room for every job: an entry takes 11 bytes of at most 16,384
-pub record Sized (s : JobStores) : Type 0 where
-  pub starts-room : more_than_n ≤ length s.starts
-  pub columns-room : job_entries ≤ length s.columns
-  pub values-room : job_entries ≤ length s.values
-  pub right_room : max_job_n ≤ length s.right
-  pub rows-room : max_job_n ≤ length s.rows
+-- what stands in stores that are lent
+abbrev pub lists_in : LentStores → JobStores
+lists_in s = stores_of s.starts.now s.columns.now s.values.now s.right.now s.rows.now
+
+-- the same stores are lent as before, whatever stands in them
+pub record SameStores (old new : LentStores) : Type 0 where
+  pub same_starts : new.starts.ghost_name ≡ old.starts.ghost_name
+  pub same_columns : new.columns.ghost_name ≡ old.columns.ghost_name
+  pub same_values : new.values.ghost_name ≡ old.values.ghost_name
+  pub same_right : new.right.ghost_name ≡ old.right.ghost_name
+  pub same_rows : new.rows.ghost_name ≡ old.rows.ghost_name

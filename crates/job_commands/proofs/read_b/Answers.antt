@@ -1,27 +1,18 @@
 -- `read_b` meets its contract.
-use native.Mathlib.Omega.{arith}
-use Rattle.job_commands.specs.Progress.{with_ends, Onward}
-use Rattle.job_commands.proofs.Bounds.{b_onward}
-use Rattle.job_commands.proofs.Commanding.{b_cut, b_read}
+use Rattle.std.proofs.Common.{arith, rules}
+use Rattle.foundation.specs.Job.{read_b}
+use Rattle.job_commands.specs.Progress.{state, going_on}
+use Rattle.job_commands.specs.Stores.{lists_in}
+use Rattle.job_commands.proofs.Commanding.{written, starts_more, operand-cut, b_read}
 use Rattle.job_commands.proofs.read_b.Goals as goal
 
-pub returns-then-job-at-lt9 : goal.returns-then-job-at-lt9
-unfolding Onward
-returns-then-job-at-lt9 c =
-    record {
-      right_after = λ s room. b_cut c.args.job.now c.args.p c.requires.0 (with_ends s c.args.starts.now c.args.right.now) (omega arith);
-      onward = tt;
-    }
+pub returns-in_err-side-clause-value : goal.returns-in_err-side-clause-value
+unfolding read_b
+returns-in_err-side-clause-value c = operand-cut _ 8 c.args.p.bytes.now _ (search rules) (search rules)
 
-pub returns : goal.returns
-returns c =
-    record {
-      right_after = λ s room.
-          b_read c.args.job.now c.args.p c.requires.0 (with_ends s c.args.starts.now c.args.right.now) (omega arith) room (omega (
-            arith,
-            c.requires.0.sound.small,
-            c.requires.2,
-          ))
-          (omega (arith, c.requires.0.sound.small, c.requires.3)) _ c.f64_at.ensures;
-      onward = b_onward c.args.job.now c.args.p c.requires.0 c.requires.1 (omega arith);
-    }
+pub returns-clause-value : goal.returns-clause-value
+unfolding going_on state
+returns-clause-value c =
+    let s = c.args.stores.now in
+    b_read (state c.args.p (lists_in s)) c.args.p.bytes.now c.in_ok-side.rest.now c.in_ok-side.side (search rules) (search rules) (search rules)
+    _ _ (starts_more s.starts.now s.columns.now c.args.p.closed c.args.p.entries (omega arith) (omega arith)) (written s.right.now c.args.p.closed c.in_ok-side.side (omega arith))

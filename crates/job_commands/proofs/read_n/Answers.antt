@@ -1,37 +1,23 @@
 -- `read_n` meets its contract.
-use native.Mathlib.Omega.{arith}
-use Rattle.job_commands.specs.Progress.{Onward}
-use Rattle.job_commands.proofs.Bounds.{n_onward}
-use Rattle.job_commands.proofs.Commanding.{n_cut, n_zero, n_large, n_fine}
+use Rattle.std.proofs.Common.{◌≡◌, ◌||◌, true, false, arith, rules}
+use Rattle.std.proofs.lemmas.Bool.Decides.{nat_tests}
+use lib.Dec.{eqb, ltb}
+use Rattle.foundation.specs.Job.{read_n, max_job_n}
+use Rattle.job_commands.specs.Progress.{state, going_on}
+use Rattle.job_commands.proofs.Commanding.{operand-cut, n_refused, n_read}
 use Rattle.job_commands.proofs.read_n.Goals as goal
 
-pub returns-then-job-at-lt3 : goal.returns-then-job-at-lt3
-unfolding Onward
-returns-then-job-at-lt3 c =
-    record {
-      s_value = λ s. n_cut c.args.job.now c.args.p c.requires.0 s (omega arith);
-      onward = tt;
-    }
+pub returns-in_err-n-clause-value : goal.returns-in_err-n-clause-value
+unfolding read_n
+returns-in_err-n-clause-value c = λ s. operand-cut s 2 c.args.p.bytes.now _ (search rules) (search rules)
 
-pub returns-then-n-eq0 : goal.returns-then-n-eq0
-unfolding Onward
-returns-then-n-eq0 c =
-    record {
-      s_value = λ s. n_zero c.args.job.now c.args.p c.requires.0 s (omega arith) _ c.u16_at-n.ensures.0 c.if-n-eq0.true;
-      onward = tt;
-    }
+pub returns-then-n-eq0-clause-value : goal.returns-then-n-eq0-clause-value
+returns-then-n-eq0-clause-value c = λ s.
+    let t : eqb c.in_ok-n.n 0 || ltb max_job_n c.in_ok-n.n ≡ true = grind (arith, nat_tests) in
+    n_refused (state c.args.p s) c.args.p.bytes.now c.in_ok-n.rest.now c.in_ok-n.n (search rules) (search rules) (search rules) s t
 
-pub returns-then-n-gt-LARGEST_N : goal.returns-then-n-gt-LARGEST_N
-unfolding Onward
-returns-then-n-gt-LARGEST_N c =
-    record {
-      s_value = λ s. n_large c.args.job.now c.args.p c.requires.0 s (omega arith) _ c.u16_at-n.ensures.0 c.if-n-gt-LARGEST_N.true;
-      onward = tt;
-    }
-
-pub returns : goal.returns
-returns c =
-    record {
-      s_value = λ s. n_fine c.args.job.now c.args.p c.requires.0 s (omega arith) _ c.u16_at-n.ensures.0 c.if-n-eq0.false (omega arith);
-      onward = n_onward c.args.job.now c.args.p c.requires.0 c.requires.1 _ (omega arith) (omega arith);
-    }
+pub returns-clause-value : goal.returns-clause-value
+unfolding going_on state
+returns-clause-value c = λ s.
+    let t : eqb c.in_ok-n.n 0 || ltb max_job_n c.in_ok-n.n ≡ false = grind (arith, nat_tests) in
+    n_read (state c.args.p s) c.args.p.bytes.now c.in_ok-n.rest.now c.in_ok-n.n (search rules) (search rules) (search rules) t

@@ -1,21 +1,18 @@
 -- `read_p` meets its contract.
-use native.Mathlib.Omega.{arith}
-use Rattle.job_commands.specs.Progress.{with_rows, Onward}
-use Rattle.job_commands.proofs.Bounds.{p_onward}
-use Rattle.job_commands.proofs.Commanding.{p_cut, p_read}
+use Rattle.std.proofs.Common.{arith, rules}
+use Rattle.foundation.specs.Job.{read_p}
+use Rattle.job_commands.specs.Progress.{state, going_on}
+use Rattle.job_commands.specs.Stores.{lists_in}
+use Rattle.job_commands.proofs.Commanding.{written, operand-cut, p_read}
 use Rattle.job_commands.proofs.read_p.Goals as goal
 
-pub returns-then-job-at-lt3 : goal.returns-then-job-at-lt3
-unfolding Onward
-returns-then-job-at-lt3 c =
-    record {
-      rows_after = λ s. p_cut c.args.job.now c.args.p c.requires.0 (with_rows s c.args.rows.now) (omega arith);
-      onward = tt;
-    }
+pub returns-in_err-row-clause-value : goal.returns-in_err-row-clause-value
+unfolding read_p
+returns-in_err-row-clause-value c = operand-cut _ 2 c.args.p.bytes.now _ (search rules) (search rules)
 
-pub returns : goal.returns
-returns c =
-    record {
-      rows_after = λ s. p_read c.args.job.now c.args.p c.requires.0 (with_rows s c.args.rows.now) (omega arith) (omega arith) _ c.u16_at.ensures.0;
-      onward = p_onward c.args.job.now c.args.p c.requires.0 c.requires.1 (omega arith);
-    }
+pub returns-clause-value : goal.returns-clause-value
+unfolding going_on state
+returns-clause-value c =
+    let s = c.args.stores.now in
+    p_read (state c.args.p (lists_in s)) c.args.p.bytes.now c.in_ok-row.rest.now c.in_ok-row.row (search rules) (search rules) (search rules)
+    _ (written s.rows.now c.args.p.chosen c.in_ok-row.row (omega arith))

@@ -1,21 +1,9 @@
 -- `read_z` meets its contract.
-use native.Mathlib.Omega.{arith}
-use Rattle.job_commands.specs.Progress.{Onward}
-use Rattle.job_commands.proofs.Commanding.{z_follows, z_done}
+use Rattle.job_commands.proofs.Commanding.{z_done, z_refused}
 use Rattle.job_commands.proofs.read_z.Goals as goal
 
-pub returns-then-job-at-gt1 : goal.returns-then-job-at-gt1
-unfolding Onward
-returns-then-job-at-gt1 c =
-    record {
-      s_value = λ s. z_follows c.args.job.now c.args.p c.requires.0 s (omega arith);
-      onward = tt;
-    }
+pub returns-in-empty : goal.returns-in-empty
+returns-in-empty c = λ s. z_done _ s _ c.in-empty.len_below
 
-pub returns : goal.returns
-unfolding Onward
-returns c =
-    record {
-      s_value = λ s. z_done c.args.job.now c.args.p c.requires.0 s (omega arith);
-      onward = (c.requires.0.sound, c.requires.1);
-    }
+pub returns-in_default : goal.returns-in_default
+returns-in_default c = λ s. z_refused _ s _ c.in_default.len_at_least
