@@ -1,2 +1,2 @@
--- Laws of which command may stand where.
+-- Laws of the order of commands.
 pub mod Placing

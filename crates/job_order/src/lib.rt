@@ -1,123 +1,83 @@
 // Which command may stand where: N first; E and B in a row; R between rows while one is left; P and Z after all rows.
 #![tactic(auto)]
 
-ghost use Rattle.std.specs.Prelude.{◌≡◌, true, false, List, ℕ, ◌<◌, ◌≤◌, length, drop};
-ghost use Rattle.foundation.specs.Job.{next, max_job_bytes, max_job_n};
-ghost use Rattle.job_commands.specs.Stores.{JobStores, stores_of, Sized};
-ghost use Rattle.job_commands.specs.Progress.{InBounds, ByteLeft, state, with_rows, next_of, Onward};
+ghost use Rattle.std.specs.Prelude.{◌≡◌, ◌+◌, ◌*◌, ◌<◌, ◌≤◌, length, IfOk, MatchOption};
+ghost use Rattle.foundation.specs.Job.{command, next, max_job_bytes};
+ghost use Rattle.job_commands.specs.Stores.{lists_in, SameStores};
+ghost use Rattle.job_commands.specs.Progress.{state, next_of};
+ghost use Rattle.job_order.specs.Standing.{StandsAt, none_or_all};
 
-use job_commands::{Progress, Turn, read_b, read_e, read_n, read_p, read_r, read_z};
+use job_commands::{
+    JobRefusal, LentStores, Progress, read_b, read_e, read_n, read_p, read_r, read_z,
+};
 
-// Nothing read yet.
-fn read_first(job: &[u8], p: Progress) -> Turn
-    requires { ByteLeft (length job.now) p × (p.n ≡ 0) }
-    ensures s_value { (s : JobStores) → next_of result job.now s ≡ next (state p s) (drop p.at job.now) }
-    ensures onward { Onward (length job.now) p.at result }
-{
-    let at = p.at;
-    if job[at] == 0x4E {
-        return read_n(job, p);
-    }
-    Turn::Refused(15)
+// Where reading stands.
+#[derive(Clone, Copy, PartialEq, Eq)]
+enum Stage {
+    // nothing is read yet
+    First,
+    // a row is open
+    InRow,
+    // no row is open, and one is left
+    BetweenRows,
+    // all rows are closed
+    AfterRows,
 }
 
-// A row is open.
-fn read_in_row(
-    job: &[u8],
-    p: Progress,
-    starts: &mut [usize],
-    columns: &mut [usize],
-    values: &mut [f64],
-    right: &mut [f64],
-) -> Turn
-    requires { ByteLeft (length job.now) p × (p.opened ≡ true) × ((rows : List ℕ) × Sized (stores_of starts.old columns.old values.old right.old rows)) }
-    ensures by_index { (rows : List ℕ) → next_of result job.now (stores_of starts.new columns.new values.new right.new rows)
-        ≡ next (state p (stores_of starts.old columns.old values.old right.old rows)) (drop p.at job.now) }
-    ensures onward { Onward (length job.now) p.at result }
+fn stage_of(p: Progress) -> Stage
+    ensures { StandsAt result p.entry }
 {
-    let at = p.at;
-    let byte = job[at];
-    if byte == 0x45 {
-        return read_e(job, p, columns, values);
+    if p.n == 0 {
+        Stage::First
+    } else if p.opened {
+        Stage::InRow
+    } else if p.closed < p.n {
+        Stage::BetweenRows
+    } else {
+        Stage::AfterRows
     }
-    if byte == 0x42 {
-        return read_b(job, p, starts, right);
-    }
-    Turn::Refused(15)
 }
 
-// No row is open, and one is left.
-fn read_between_rows(job: &[u8], p: Progress) -> Turn
-    requires { ByteLeft (length job.now) p × (p.opened ≡ false) × (p.closed < p.n) }
-    ensures s_value { (s : JobStores) → p.closed ≤ length s.right → next_of result job.now s ≡ next (state p s) (drop p.at job.now) }
-    ensures onward { Onward (length job.now) p.at result }
+// P has named no row, or all of them.
+fn named_none_or_all(p: Progress) -> bool
+    ensures { result ≡ none_or_all p.entry }
 {
-    let at = p.at;
-    if job[at] == 0x52 {
-        return read_r(job, p);
-    }
-    Turn::Refused(15)
+    p.chosen == 0 || p.chosen == p.n
 }
 
-// All rows are closed: P while fewer than n rows are named, Z if none or n are. `left` is how many P may still name.
-fn read_after_rows(job: &[u8], p: Progress, rows: &mut [usize]) -> Turn
-    requires { ByteLeft (length job.now) p × (p.opened ≡ false) × (p.closed ≡ p.n) × (0 < p.n) × (max_job_n ≤ length rows.old) }
-    ensures rows_after { (s : JobStores) → p.closed ≤ length s.right → next_of result job.now (with_rows s rows.new)
-        ≡ next (state p (with_rows s rows.old)) (drop p.at job.now) }
-    ensures onward { Onward (length job.now) p.at result }
+// The command of this byte, whose operands and all that follows them are left.
+fn read_command<'a>(
+    byte: u8,
+    p: Progress<'a>,
+    stores: &mut LentStores,
+) -> Result<Option<Progress<'a>>, JobRefusal>
+    requires { 11 * p.entries + length p.bytes.now < max_job_bytes }
+    ensures value { next_of result p.entry (lists_in stores.new) ≡ command (state p.entry (lists_in stores.old)) byte p.entry.bytes.now }
+    ensures same { SameStores stores.old stores.new }
+    ensures onward { IfOk result (λ o. MatchOption o (p.entry.closed ≡ p.entry.n) (λ q. length q.bytes.now ≤ length p.entry.bytes.now)) }
 {
-    let at = p.at;
-    let byte = job[at];
-    let chosen = p.chosen;
-    let left = p.n - chosen;
-    if byte == 0x50 {
-        if 0 < left {
-            return read_p(job, p, rows);
-        }
-        return Turn::Refused(15);
+    match (stage_of(p), byte) {
+        (Stage::First, b'N') => read_n(p).map(Some),
+        (Stage::InRow, b'E') => read_e(p, stores).map(Some),
+        (Stage::InRow, b'B') => read_b(p, stores).map(Some),
+        (Stage::BetweenRows, b'R') => read_r(p).map(Some),
+        (Stage::AfterRows, b'P') if p.chosen < p.n => read_p(p, stores).map(Some),
+        (Stage::AfterRows, b'Z') if named_none_or_all(p) => read_z(p).map(|()| None),
+        _ => Err(JobRefusal::Misplaced),
     }
-    if byte == 0x5A {
-        if chosen == 0 {
-            return read_z(job, p);
-        }
-        if left == 0 {
-            return read_z(job, p);
-        }
-        return Turn::Refused(15);
-    }
-    Turn::Refused(15)
 }
 
 // The next command.
-pub fn read_next(
-    job: &[u8],
-    p: Progress,
-    starts: &mut [usize],
-    columns: &mut [usize],
-    values: &mut [f64],
-    right: &mut [f64],
-    rows: &mut [usize],
-) -> Turn
-    requires { InBounds (length job.now) p × (length job.now ≤ max_job_bytes) × Sized (stores_of starts.old columns.old values.old right.old rows.old) }
-    ensures rows_after { next_of result job.now (stores_of starts.new columns.new values.new right.new rows.new)
-        ≡ next (state p (stores_of starts.old columns.old values.old right.old rows.old)) (drop p.at job.now) }
-    ensures onward { Onward (length job.now) p.at result }
+pub fn read_next<'a>(
+    p: Progress<'a>,
+    stores: &mut LentStores,
+) -> Result<Option<Progress<'a>>, JobRefusal>
+    ensures value { next_of result p.entry (lists_in stores.new) ≡ next (state p.entry (lists_in stores.old)) p.entry.bytes.now }
+    ensures same { SameStores stores.old stores.new }
+    ensures onward { IfOk result (λ o. MatchOption o (p.entry.closed ≡ p.entry.n) (λ q. length q.bytes.now < length p.entry.bytes.now)) }
 {
-    let at = p.at;
-    let n = p.n;
-    let opened = p.opened;
-    let closed = p.closed;
-    if job.len() <= at {
-        return Turn::Refused(16);
-    }
-    if n == 0 {
-        return read_first(job, p);
-    }
-    if opened {
-        return read_in_row(job, p, starts, columns, values, right);
-    }
-    if closed < n {
-        return read_between_rows(job, p);
-    }
-    read_after_rows(job, p, rows)
+    let (byte, rest) = p.bytes.split_first().ok_or(JobRefusal::CutShort)?;
+    let mut behind = p;
+    behind.bytes = rest;
+    read_command(*byte, behind, stores)
 }

@@ -1,0 +1,2 @@
+-- Where reading a job stands.
+pub mod Standing
