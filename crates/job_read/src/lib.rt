@@ -4,101 +4,47 @@
 // stand where. Callers see the sizes of what was read and the stores.
 #![tactic(auto)]
 
-ghost use Rattle.std.specs.Prelude.{◌≡◌, suc, ◌≤◌, length};
+ghost use Rattle.std.specs.Prelude.{◌≡◌, suc, ◌≤◌, length, IfOk};
 ghost use Rattle.foundation.specs.Job.{reading, nothing_read, read_job, max_job_bytes};
-ghost use Rattle.job_commands.specs.Stores.{stores_of, Sized};
-ghost use Rattle.job_read.specs.Read.{read_of, Bounded};
-ghost use Rattle.job_read.specs.Ending.{ending_of, Ended};
+ghost use Rattle.job_commands.specs.Stores.{lists_in, SameStores};
+ghost use Rattle.job_read.specs.Read.{read_of};
+ghost use Rattle.job_read.specs.Ending.{ending_of};
 
-use job_commands::{Progress, Turn};
+mod sizes;
+
+pub use job_commands::{JobRefusal, LentStores};
+use job_commands::{Progress, nothing_read};
 use job_order::read_next;
 use job_sizes::JOB_BYTES;
+pub use sizes::Sizes;
 
-// How much a job has brought: n rows with their right sides, n + 1 starts, so many entries with their values, and the rows that P has named (none or n).
-#[derive(Clone, Copy)]
-pub struct Sizes {
-    pub n: usize,
-    pub entries: usize,
-    pub chosen: usize,
-}
-
-// What reading a job comes to: a refusal's number (its step is 0), or what stands in the stores.
-#[derive(Clone, Copy)]
-pub enum JobRead {
-    Refused(usize),
-    Read(Sizes),
-}
-
-// How the commands ended.
-#[derive(Clone, Copy)]
-enum Ending {
-    Refused(usize),
-    Read(Progress),
-}
-
-// Command after command, each of a byte at least.
-fn read_commands(
-    job: &[u8],
-    starts: &mut [usize],
-    columns: &mut [usize],
-    values: &mut [f64],
-    right: &mut [f64],
-    rows: &mut [usize],
-) -> Ending
-    requires { (length job.now ≤ max_job_bytes) × Sized (stores_of starts.old columns.old values.old right.old rows.old) }
-    ensures rows_after { ending_of result (stores_of starts.new columns.new values.new right.new rows.new)
-        ≡ reading (suc (length job.now)) nothing_read job.now }
-    ensures ended { Ended (length job.now) result }
+// Command after command, each of a byte at least, until Z.
+fn read_commands<'a>(job: &'a [u8], stores: &mut LentStores) -> Result<Progress<'a>, JobRefusal>
+    requires { length job.now ≤ max_job_bytes }
+    ensures answer { ending_of result (lists_in stores.new) ≡ reading (suc (length job.now)) nothing_read job.now }
+    ensures same { SameStores stores.old stores.new }
+    ensures ended { IfOk result (λ p. p.closed ≡ p.n) }
 {
-    starts[0] = 0;
-    let mut p = Progress {
-        at: 0,
-        n: 0,
-        opened: false,
-        closed: 0,
-        entries: 0,
-        chosen: 0,
-    };
-    loop {
-        let turn = read_next(job, p, starts, columns, values, right, rows);
-        match turn {
-            Turn::More(q) => {
-                p = q;
-            }
-            Turn::Refused(number) => {
-                return Ending::Refused(number);
-            }
-            Turn::Done(q) => {
-                return Ending::Read(q);
-            }
-        }
+    stores.starts[0] = 0;
+    let mut p = nothing_read(job);
+    while let Some(next) = read_next(p, stores)? {
+        p = next;
     }
+    Ok(p)
 }
 
-// A job read into lent stores, which have room for every job (`Sized`).
-pub fn read_job(
-    job: &[u8],
-    starts: &mut [usize],
-    columns: &mut [usize],
-    values: &mut [f64],
-    right: &mut [f64],
-    rows: &mut [usize],
-) -> JobRead
-    requires { Sized (stores_of starts.old columns.old values.old right.old rows.old) }
-    ensures answer { read_of result (stores_of starts.new columns.new values.new right.new rows.new)
-        ≡ read_job job.now }
-    ensures sizes { Bounded result }
+// A job read into lent stores.
+pub fn read_job(job: &[u8], stores: &mut LentStores) -> Result<Sizes, JobRefusal>
+    ensures answer { read_of result (lists_in stores.new) ≡ read_job job.now }
+    ensures same { SameStores stores.old stores.new }
 {
     if JOB_BYTES < job.len() {
-        return JobRead::Refused(18);
+        return Err(JobRefusal::TooLong);
     }
-    let ending = read_commands(job, starts, columns, values, right, rows);
-    match ending {
-        Ending::Refused(number) => JobRead::Refused(number),
-        Ending::Read(p) => JobRead::Read(Sizes {
-            n: p.n,
-            entries: p.entries,
-            chosen: p.chosen,
-        }),
-    }
+    let p = read_commands(job, stores)?;
+    Ok(Sizes {
+        n: p.n,
+        entries: p.entries,
+        chosen: p.chosen,
+    })
 }
