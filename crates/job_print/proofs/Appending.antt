@@ -1,27 +1,12 @@
 -- Texts written one behind the other.
-use mathlib.Core.Path.{◌≡◌, refl, sym, ◌∙◌}
-use mathlib.Core.List.{List, [], ◌∷◌, ◌++◌, append-nil, append_assoc}
-use Prim.Native.Nat.{ℕ, ◌+◌, ◌-◌, ◌≤◌, ◌<◌}
-use native.Mathlib.Numerals.{add-one}
-use native.Mathlib.Nat.{add-zero}
-use native.Mathlib.Omega.{arith}
-use lib.ListN.{length, take, drop, get_or, set, length-append, length-set}
-use lib.Seq.{take-suc, take_all, take-suc-set, drop-set-lt, drop-drop}
+use Rattle.std.proofs.Common.{◌≡◌, ℕ, ◌+◌, ◌-◌, ◌≤◌, List, [], ◌++◌, length, take, drop, refl, sym, ◌∙◌, arith, append_assoc, length-append, length-drop, length-take-le}
+use Rattle.std.proofs.lemmas.List.{append-nil}
+use Rattle.std.proofs.Math.Seq.{drop-drop}
+use borrow.Rule.Slice.PartMut.{put_mid}
+use Rattle.std.proofs.lemmas.Slice.{take-put_mid, drop-put_mid}
 use Rattle.job_print.specs.Appended.{Appended}
-
--- nothing
-pub append_none : (was : List ℕ) (at : ℕ) → Appended was at [] was at
-append_none was at = record { size = refl; ends = omega arith; written = sym (append-nil (take at was)); beyond = refl }
-
--- one byte
-pub append-one : (was : List ℕ) (at b : ℕ) → at < length was → Appended was at (b ∷ []) (set was at b) (at + 1)
-append-one was at b h =
-    record {
-      size = simp length-set;
-      ends = refl;
-      written = rw (add-one, take-suc-set was at b);
-      beyond = drop-set-lt (at + 1) was at b (omega arith);
-    }
+use Rattle.job_print.specs.Page.{HasRoom, Wrote}
+use Rattle.job_print.specs.declared.page.Page.{Page}
 
 -- what lies beyond a place lies beyond a later one
 beyond-later : (a b : List ℕ) (m r : ℕ) → m ≤ r → drop m a ≡ drop m b → drop r a ≡ drop r b
@@ -30,8 +15,7 @@ beyond-later a b m r h e =
     let g : drop (m + (r - m)) a ≡ drop (m + (r - m)) b = rw (← drop-drop (r - m) m a, ← drop-drop (r - m) m b, e) in
     rw f at g
 
--- a text and another behind it
-pub append_then : {was mid now t u : List ℕ} {at m r : ℕ} → Appended was at t mid m → Appended mid m u now r → Appended was at (t ++ u) now r
+append_then : {was mid now t u : List ℕ} {at m r : ℕ} → Appended was at t mid m → Appended mid m u now r → Appended was at (t ++ u) now r
 append_then {was} {mid} {now} {t} {u} {at} {m} {r} p q =
     record {
       size = q.size ∙ p.size;
@@ -40,16 +24,36 @@ append_then {was} {mid} {now} {t} {u} {at} {m} {r} p q =
       beyond = q.beyond ∙ beyond-later mid was m r (omega (arith, q.ends)) p.beyond;
     }
 
--- a word copied byte by byte
-pub word_start : (was : List ℕ) (at : ℕ) → Appended was at [] was (at + 0)
-word_start was at = rw (add-zero at) (append_none was at)
+-- a word copied to its place
+pub word_copied : (was word part : List ℕ) (at room : ℕ) → at + length word ≤ length was → room ≡ length word → part ≡ word
+    → Appended was at word (put_mid at room was part) (at + length word)
+word_copied was word part at room h e f =
+    record {
+      size = rw f (simp length-append (omega (arith, length-take-le at was (omega arith), length-drop room (drop at was), length-drop at was)));
+      ends = refl;
+      written = take-put_mid at room was part (at + length word) (rw f) (omega arith) ∙ rw f;
+      beyond = drop-put_mid at room was part (at + length word) (omega arith) (omega arith) (rw (f, e));
+    }
 
-pub word_turn : (was now word : List ℕ) (at i : ℕ) → i < length word → at + length word ≤ length was → Appended was at (take i word) now (at + i)
-    → Appended was at (take (i + 1) word) (set now (at + i) (get_or word i 0)) (at + (i + 1))
-word_turn was now word at i h k p =
-    let s : length now ≡ length was = p.size in
-    let e : at + (i + 1) ≡ at + i + 1 = omega arith in
-    rw (e, add-one i, take-suc word i 0 h) (append_then p (append-one now (at + i) (get_or word i 0) (omega arith)))
+-- ---- on a page
 
-pub word_end : (was now word : List ℕ) (at i : ℕ) → length word ≤ i → Appended was at (take i word) now (at + i) → Appended was at word now (at + i)
-word_end was now word at i k p = rw (take_all i word k) at p
+-- nothing
+pub wrote_none : (p : Page) → Wrote p p []
+wrote_none p =
+    record {
+      same_store = refl;
+      appended = record { size = refl; ends = omega arith; written = sym (append-nil (take p.end p.bytes.now)); beyond = refl };
+    }
+
+-- a text and another behind it
+pub wrote_then : {p q r : Page} {t u : List ℕ} → Wrote p q t → Wrote q r u → Wrote p r (t ++ u)
+wrote_then a b = record { same_store = b.same_store ∙ a.same_store; appended = append_then a.appended b.appended }
+
+-- the room that is left
+pub room_left : {p q : Page} {t : List ℕ} (count : ℕ) → Wrote p q t → HasRoom p (length t + count) → HasRoom q count
+room_left count a h = omega (arith, a.appended.ends, a.appended.size)
+
+-- the store, once the page that lent it is given up
+pub page_over : {p q : Page} {t : List ℕ} (now : List ℕ) → Wrote p q t → (p.bytes.ghost_name ≡ q.bytes.ghost_name → now ≡ q.bytes.now)
+    → Appended p.bytes.now p.end t now q.end
+page_over now a back = rw (back (sym a.same_store)) a.appended

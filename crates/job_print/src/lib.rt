@@ -1,6 +1,6 @@
 // The bytes of an answer, written into a lent store: a finished run's report, or the line of a refusal.
 //
-// Every function writes at a place, says where it ended and leaves what lies beyond as it was: the record `Appended`. A usize has at most
+// Every function writes behind what a page has and leaves what lies beyond as it was: the records `Wrote` and `Appended`. A usize has at most
 // 20 digits, so a line of the solution takes at most 40 bytes, and 8,192 bytes are room for every report of 128 fields.
 #![tactic(auto)]
 
@@ -15,14 +15,19 @@ ghost use Rattle.job_print.specs.Lines.{Finished};
 
 mod digits;
 mod lines;
+mod page;
+
+use page::Page;
 
 // The line of a refusal: its number and its step.
 pub fn put_refused(out: &mut [u8], number: usize, step: usize) -> usize
     requires { 50 ≤ length out.old }
     ensures { Appended out.old 0 (refused_line number step) out.new result }
 {
+    let mut page = Page { bytes: out, end: 0 };
     let numbers = [number, step];
-    lines::put_line(out, 0, b"refused", &numbers)
+    page.put_line(b"refused", &numbers);
+    page.end
 }
 
 // The report of a finished run: the plan's counts, the pivot rows, the solution row by row, the updates.
@@ -37,9 +42,10 @@ pub fn put_report(
     ensures { (p : Lent) (ran : Ran) → Finished p ran counts.now pivots.now solution.now updates
         → Appended out.old 0 (report p ran) out.new result }
 {
-    let sum = [updates];
-    let planned = lines::put_line(out, 0, b"plan", counts);
-    let chosen = lines::put_line(out, planned, b"rows", pivots);
-    let solved = lines::put_values(out, chosen, solution);
-    lines::put_line(out, solved, b"updates", &sum)
+    let mut page = Page { bytes: out, end: 0 };
+    page.put_line(b"plan", counts);
+    page.put_line(b"rows", pivots);
+    page.put_values(solution);
+    page.put_line(b"updates", &[updates]);
+    page.end
 }
