@@ -4,40 +4,26 @@ ghost use Rattle.foundation.specs.Answer.{granted};
 ghost use Rattle.foundation.specs.Printing.{printed, job_text};
 ghost use Rattle.job_sizes.specs.Sizes.{answer_room};
 ghost use Rattle.job_print.specs.Appended.{Appended};
-ghost use Rattle.job_read.specs.Read.{stores_of, Sized, job_in, WithinStores};
+ghost use Rattle.job_read.specs.Read.{lists_in, job_in};
 
 use job_print::put_refused;
-use job_read::{JobRead, Sizes, read_job};
+use job_read::{LentStores, Sizes, read_job};
 use job_run::put_plan;
 use job_sizes::{JOB_ENTRIES, LARGEST_N, MORE_THAN_N};
 
 // A job that was read: the filled parts of its stores go on.
-fn put_read(
-    out: &mut [u8],
-    z: Sizes,
-    starts: &[usize],
-    columns: &[usize],
-    values: &[f64],
-    right: &[f64],
-    rows: &[usize],
-) -> usize
-    requires { (answer_room ≤ length out.old) × WithinStores z × Sized (stores_of starts.now columns.now values.now right.now rows.now) }
-    ensures { Appended out.old 0
-        (job_text (granted (job_in z (stores_of starts.now columns.now values.now right.now rows.now))))
-        out.new result }
+fn put_read(out: &mut [u8], z: Sizes, stores: &LentStores) -> usize
+    requires { answer_room ≤ length out.old }
+    ensures { Appended out.old 0 (job_text (granted (job_in z (lists_in stores.now)))) out.new result }
 {
-    let n = z.n;
-    let more = n + 1;
-    let entries = z.entries;
-    let chosen = z.chosen;
     put_plan(
         out,
-        n,
-        &starts[0..more],
-        &columns[0..entries],
-        &values[0..entries],
-        &right[0..n],
-        &rows[0..chosen],
+        z.n,
+        &stores.starts[..z.n + 1],
+        &stores.columns[..z.entries],
+        &stores.values[..z.entries],
+        &stores.right[..z.n],
+        &stores.rows[..z.chosen],
     )
 }
 
@@ -51,16 +37,15 @@ pub fn put_answer(job: &[u8], out: &mut [u8]) -> usize
     let mut values = [0.0f64; JOB_ENTRIES];
     let mut right = [0.0f64; LARGEST_N];
     let mut rows = [0usize; LARGEST_N];
-    let read = read_job(
-        job,
-        &mut starts,
-        &mut columns,
-        &mut values,
-        &mut right,
-        &mut rows,
-    );
-    match read {
-        JobRead::Refused(number) => put_refused(out, number, 0),
-        JobRead::Read(z) => put_read(out, z, &starts, &columns, &values, &right, &rows),
+    let mut stores = LentStores {
+        starts: &mut starts,
+        columns: &mut columns,
+        values: &mut values,
+        right: &mut right,
+        rows: &mut rows,
+    };
+    match read_job(job, &mut stores) {
+        Ok(z) => put_read(out, z, &stores),
+        Err(refusal) => put_refused(out, refusal.number(), 0),
     }
 }

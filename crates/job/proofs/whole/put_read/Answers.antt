@@ -1,12 +1,7 @@
 -- `put_read` meets its contract.
-use Rattle.job_read.specs.Read.{stores_of}
+use Rattle.job_read.specs.Read.{lists_in}
 use Rattle.job.proofs.Texts.{parts_are}
 use Rattle.job.proofs.whole.put_read.Goals as goal
 
-pub put_plan-requires : goal.put_plan-requires
-put_plan-requires c = (c.requires.0, c.requires.1.small)
-
 pub returns : goal.returns
-returns c =
-    let a = c.args in
-    rw (parts_are a.z (stores_of a.starts.now a.columns.now a.values.now a.right.now a.rows.now)) at c.put_plan.ensures
+returns c = rw (parts_are c.args.z (lists_in c.args.stores.now)) at c.put_plan.ensures
