@@ -13,7 +13,7 @@ ghost use Rattle.plan_grow.specs.Growing.{StepsReady};
 use plan_gather::after_first;
 use store_lists::{append, list_at, merge_in};
 use store_place::list_place;
-use store_search::{Behind, search_behind};
+use store_search::search_behind;
 
 // A list joins the growing one, without the step at hand, k: how many members there are then. A search tells whether it only adds behind the end: then
 // it is appended, and else merged in place. It is searched where it is likely to add nothing, or only behind the end.
@@ -24,7 +24,7 @@ fn join(search: bool, k: usize, more: &[usize], count: usize, growing: &mut [usi
 {
     let comes = after_first(k, more);
     if search {
-        if let Behind::From(at) = search_behind(&growing[0..count], comes) {
+        if let Some(at) = search_behind(&growing[0..count], comes) {
             return append(&comes[at..], growing, count);
         }
     }

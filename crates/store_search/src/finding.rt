@@ -8,15 +8,5 @@ ghost use Rattle.store_search.specs.Places.{FirstFrom};
 pub fn place_of(list: &[usize], x: usize) -> usize
     ensures { (result ≤ length list.now) × (Ascending 0 list.now → FirstFrom list.now x result) }
 {
-    let mut low = 0;
-    let mut high = list.len();
-    while low < high {
-        let mid = low + (high - low) / 2;
-        if list[mid] < x {
-            low = mid + 1;
-            continue;
-        }
-        high = mid;
-    }
-    low
+    list.partition_point(|member| *member < x)
 }
