@@ -5,12 +5,7 @@ use mathlib.Core.Path.{◌≡◌}
 use Prim.Native.Nat.{ℕ, ◌+◌, ◌≤◌, ◌<◌}
 use native.Mathlib.Decide.{dec_lt}
 use native.Mathlib.Omega.{arith}
-use lib.Dec.{ltb}
-use borrow.Author.Tests.{ltb-true, ltb-false}
 use lib.ListN.{length, get_or}
-use Rattle.std.specs.List.Sorted.{IsPartitionedBy, IsPartitionPoint}
-use Rattle.std.proofs.lemmas.List.{get_or_default}
-use Rattle.std.proofs.lemmas.List.Sorted.{IsPartitionedBy-ltb}
 use Rattle.lists.specs.Sets.{member, Ascending, index_of}
 use Rattle.lists.proofs.Members.{fails}
 use Rattle.lists.proofs.Places.{ascending_at, ascending_below, index_at, index_below}
@@ -63,18 +58,3 @@ module _ (list : List ℕ) (x low high mid : ℕ) (asc : Ascending 0 list) (h : 
 
 pub halving_end : (list : List ℕ) (x low high : ℕ) → low ≤ length list → high ≤ low → Halving list x low high → FirstFrom list x low
 halving_end list x low high within e h = record { within = within; before = h.before; behind = λ t l u. h.behind t (omega arith) u }
-
--- ---- the same by the library's search
-
--- in an ascending list those below x stand before the others
-pub below-first : (list : List ℕ) (x : ℕ) → Ascending 0 list → IsPartitionedBy (λ y. ltb y x) list
-below-first list x up i j d le inside e =
-    IsPartitionedBy-ltb (λ y. y) list x (λ k l c under within. rw (get_or_default list k c 0 (omega arith), get_or_default list l c 0 within) (ascending_at 0 k l list up under within)) i j d le inside e
-
--- and where they end is the first place whose member is not below x
-pub first-at : (list : List ℕ) (x r : ℕ) → r ≤ length list → IsPartitionPoint (λ y. ltb y x ≡ true) (λ y. ltb y x ≡ false) list r → FirstFrom list x r
-first-at list x r within (below, above) = record {
-  within = within;
-  before = λ t l. ltb-true _ x (below t 0 (omega arith) l);
-  behind = λ t l u. ltb-false _ x (above t 0 l u);
-}

@@ -5,8 +5,19 @@ ghost use Rattle.store_search.specs.Places.{FirstFrom};
 
 // The first place of an ascending list whose member is not below x, the list's length where there is none: found by halves. In a list that does
 // not ascend, some place up to its length.
+// By hand: `partition_point` of slices, which chooses without a branch, made the searches of planning a third to a half slower, whose members mostly stand near the front.
 pub fn place_of(list: &[usize], x: usize) -> usize
     ensures { (result ≤ length list.now) × (Ascending 0 list.now → FirstFrom list.now x result) }
 {
-    list.partition_point(|member| *member < x)
+    let mut low = 0;
+    let mut high = list.len();
+    while low < high {
+        let mid = low + (high - low) / 2;
+        if list[mid] < x {
+            low = mid + 1;
+            continue;
+        }
+        high = mid;
+    }
+    low
 }
