@@ -1,5 +1,4 @@
 -- `merge_in` meets its contract: the union with the members of the second list that are passed is written, but for what is left of the first, which stands in the store.
-use mathlib.Core.List.{List}
 use lib.ListN.{take, drop}
 use Rattle.lists.specs.Sets.{union}
 use Rattle.store_lists.specs.Merging.{Merging}
