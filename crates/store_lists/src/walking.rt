@@ -7,7 +7,7 @@ ghost use Rattle.store_lists.specs.Chains.{Linked, chain-unique};
 pub struct Chain<'a> {
     links: &'a [usize],
     next: usize,
-    ghost members: { (xs : List ℕ) × Linked links.now next xs } by { chain-unique links.now next },
+    pub ghost members: { (xs : List ℕ) × Linked links.now next xs } by { chain-unique links.now next },
 }
 
 // The chain that begins with `first`.
