@@ -5,13 +5,13 @@ ghost use Rattle.store_lists.specs.Merging.{Merging};
 
 // How far a merge has come: the place in the store that is read next, and how many numbers are written.
 #[derive(Clone, Copy)]
-pub struct Merged {
-    pub read: usize,
-    pub written: usize,
+struct Merged {
+    read: usize,
+    written: usize,
 }
 
 // The second list's next member, y, is written, and before it what the first list has below y. What is written never passes what is read: no fewer
-// numbers are still to be written than are left to be read.
+// numbers are still to be written than are left to be read. Counted by hand: no iterator reads a store that is written meanwhile.
 fn write_next(store: &mut [usize], from: Merged, y: usize) -> Merged
     requires { (whole : List ℕ) × (later : List ℕ) × Merging from.read from.written store.old whole (y ∷ later) }
     ensures { (whole : List ℕ) (later : List ℕ) → Merging from.read from.written store.old whole (y ∷ later)
