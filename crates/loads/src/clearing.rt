@@ -2,7 +2,7 @@
 ghost use Rattle.std.specs.Prelude.{◌≡◌};
 ghost use Rattle.foundation.specs.LoadCall.{load_stores, load_sizes_of, zero_stores};
 
-use store_clear::{clear, fill_floats};
+use store_clear::clear;
 
 pub fn clear_stores(
     starts: &mut [usize],
@@ -15,6 +15,6 @@ pub fn clear_stores(
 {
     clear(starts);
     clear(columns);
-    fill_floats(values, 0.0);
-    fill_floats(right, 0.0);
+    values.fill(0.0);
+    right.fill(0.0);
 }

@@ -25,7 +25,7 @@ use Rattle.foundation.proofs.Steps.{joined}
 use Rattle.store_place.specs.Places.{ListAsks, ListAt}
 use Rattle.store_lists.proofs.Chaining.{linked_end, linked_next}
 use Rattle.store_search.specs.Behind.{BehindAs}
-use Rattle.store_search.specs.declared.searching.Behind.TheVariants.{From}
+use Rattle.std.specs.Prelude.{Some}
 use Rattle.store_search.proofs.Passing.{behind-nothing, passed_none, passed_behind}
 use Rattle.plan_gather.specs.Ready.{lent_by, plan_of}
 use Rattle.plan_gather.specs.Gathering.{without, Within}
@@ -121,7 +121,7 @@ led k (x ∷ xs) up m =
 
 -- one that begins with k stands behind another that does from a place on, both without k
 pub led_joined :
-    (k at : ℕ) (last more have comes : List ℕ) → Led k last → Led k more → have ≡ drop 1 last → comes ≡ drop 1 more → BehindAs (From at) have comes
+    (k at : ℕ) (last more have comes : List ℕ) → Led k last → Led k more → have ≡ drop 1 last → comes ≡ drop 1 more → BehindAs (Some at) have comes
     → JoinedAs (Behind (length have) (at + 1)) k last more
 led_joined k at last more have comes a b h c (inside, behind) =
     let some = b.some in
@@ -152,7 +152,7 @@ module _ (k row : ℕ) (last have : List ℕ) (h : have ≡ without k last) wher
       ap length h,
       omega arith,
       λ low up. rw (own_alone k row other, ← h)
-          (passed_behind have (row ∷ []) 0 0 (passed_none have (row ∷ [])) some (omega arith) above low (rw h up)),
+          (passed_behind have (row ∷ []) have row [] some above (passed_none have (row ∷ [])) low (rw h up)),
     )
 
 take_none : (count : ℕ) → take {A = ℕ} count [] ≡ []

@@ -12,7 +12,7 @@ use answers::SubscriptPlace;
 use plan_gather::after_first;
 use store_lists::list_at;
 use store_place::list_place;
-use store_search::{Behind, search_behind};
+use store_search::search_behind;
 
 // Whether S_k is the one step k-1 and one row was first met at k.
 pub fn joins_last(
@@ -128,7 +128,7 @@ pub fn added_columns(
     let have = &last[1..];
     let from = starts[row - 1] + 1;
     let to = starts[row];
-    let Behind::From(at) = search_behind(have, &columns[from..to]) else {
+    let Some(at) = search_behind(have, &columns[from..to]) else {
         return Added::Elsewhere;
     };
     Added::Behind(have.len(), at + 1)

@@ -1,19 +1,14 @@
 -- How a list grows by unions at the front of a store, and how far a chain has been joined.
 use mathlib.Core.Bool.{true}
 use mathlib.Core.List.{List, [], ◌∷◌, ◌++◌}
-use mathlib.Core.Logic.{◌⊎◌, inl, inr}
 use mathlib.Core.Path.{◌≡◌, sym, ap, ◌∙◌}
-use Prim.Native.Nat.{ℕ, suc, ◌+◌, ◌-◌, ◌≤◌, ◌<◌}
+use Prim.Native.Nat.{ℕ, suc, ◌+◌, ◌-◌, ◌≤◌}
 use native.Mathlib.Nat.{sub-zero}
 use native.Mathlib.Omega.{arith}
-use lib.Dec.{eqb}
-use lib.ListN.{length, take, drop, get_or, length-append}
+use lib.ListN.{length, take, drop, length-append}
 use lib.Seq.{take_at}
-use borrow.Author.Tests.{eqb-true, eqb-false}
 use Rattle.lists.specs.Sets.{member, Ascending, union, join_all}
-use Rattle.lists.proofs.Members.{by_test, member_head, member_tail}
-use Rattle.store_lists.specs.Chains.{Linked}
-use Rattle.store_lists.proofs.Chaining.{linked_end, linked_next}
+use Rattle.lists.proofs.Members.{member_head, member_tail}
 use Rattle.plan_gather.specs.Gathering.{without, Within, GrownIn}
 use Rattle.plan_gather.proofs.Joining.{part_is, within-length, joined_within}
 
@@ -100,62 +95,35 @@ module _ {n k count : ℕ} {have xs more comes : List ℕ} (h : GrownIn n count 
 
 -- ---- how far a chain has been joined
 
--- The list grown and what a chain still brings, from `at` on, make the whole. The rest of the chain is in order and among `all`.
-pub record Gathers (n k count : ℕ) (growing links : List ℕ) (at : ℕ) (Order : List ℕ → Type 0) (part : ℕ → List ℕ)
-    (all whole : List ℕ) : Type 0 where
+-- The list grown and what is `left` of a chain make the whole. What is left is among `all`.
+pub record Gathers (n k count : ℕ) (growing : List ℕ) (part : ℕ → List ℕ) (all whole left : List ℕ) : Type 0 where
   pub so_far : List ℕ
-  pub rest : List ℕ
   pub grown : GrownIn n count growing so_far
   pub within : Within (suc k) n so_far
-  pub linked : Linked links at rest
-  pub ordered : Order rest
-  pub among : (i : ℕ) → member i rest ≡ true → member i all ≡ true
-  pub comes : join_all part so_far rest ≡ whole
+  pub among : (i : ℕ) → member i left ≡ true → member i all ≡ true
+  pub comes : join_all part so_far left ≡ whole
 
-module _ {n k count : ℕ} {growing links : List ℕ} {at : ℕ} {Order : List ℕ → Type 0} {part : ℕ → List ℕ}
-    {all whole : List ℕ} (g : Gathers n k count growing links at Order part all whole) where
+module _ {n k count : ℕ} {growing : List ℕ} {part : ℕ → List ℕ} {all whole left : List ℕ} (g : Gathers n k count growing part all whole left) where
   -- the chain is passed
-  pub gathers_end : at ≡ 0 → GrownIn n count growing whole
+  pub gathers_end : left ≡ [] → GrownIn n count growing whole
   unfolding join_all
-  gathers_end e =
-      let none : g.rest ≡ [] = linked_end links at g.rest e g.linked in
-      rw (rw none at g.comes) at g.grown
+  gathers_end none = rw (rw none at g.comes) at g.grown
 
-  module _ (some : at ≡ 0 → ⊥) where
-    next : (later : List ℕ) × (g.rest ≡ at ∷ later) × (at < length links) × Linked links (get_or links at 0) later
-    next = linked_next links at g.rest some g.linked
-
+  module _ {i : ℕ} {later : List ℕ} (next : left ≡ i ∷ later) where
     -- the chain's next member
-    pub gathers_here : (member at all ≡ true) × (at < length links)
-    gathers_here = (g.among at (rw next.1 (member_head at next.0)), next.2)
+    pub gathers_here : member i all ≡ true
+    gathers_here = g.among i (rw next (member_head i later))
 
-    -- the member after it is in the rest, or there is none
-    pub gathers_order : (later : List ℕ) × Order (at ∷ later) × ((get_or links at 0 ≡ 0) ⊎ (member (get_or links at 0) later ≡ true))
-    gathers_order = (next.0, rw next.1 at g.ordered, leads next.0 next.3)
-      where
-        leads : (later : List ℕ) → Linked links (get_or links at 0) later → (get_or links at 0 ≡ 0) ⊎ (member (get_or links at 0) later ≡ true)
-        leads later h =
-            by_test (eqb (get_or links at 0) 0)
-            (λ e. inl (eqb-true (get_or links at 0) 0 e))
-            (λ e.
-            let more = linked_next links (get_or links at 0) later (eqb-false (get_or links at 0) 0 e) h in
-            inr (rw more.1 (member_head (get_or links at 0) more.0)))
-
-    -- the next member's list is joined
+    -- its list is joined
     pub gathers_turn :
-        {count' : ℕ} {growing' : List ℕ} (more : List ℕ) → Within k n more → without k more ≡ part at
-        → ((later : List ℕ) → Order (at ∷ later) → Order later) → GrownIn n count' growing' (union g.so_far (without k more))
-        → Gathers n k count' growing' links (get_or links at 0) Order part all whole
+        {count' : ℕ} {growing' : List ℕ} (more : List ℕ) → Within k n more → without k more ≡ part i
+        → GrownIn n count' growing' (union g.so_far (without k more)) → Gathers n k count' growing' part all whole later
     unfolding join_all
-    gathers_turn more w e on h =
-        let (later, q, _, l) = next in
+    gathers_turn more w e h =
         record {
           so_far = union g.so_far (without k more);
-          rest = later;
           grown = h;
           within = joined_within k n g.so_far more g.within w;
-          linked = l;
-          ordered = on later (rw q at g.ordered);
-          among = λ i m. g.among i (rw q (member_tail i at later m));
-          comes = rw e (rw q at g.comes);
+          among = λ j m. g.among j (rw next (member_tail j i later m));
+          comes = rw e (rw next at g.comes);
         }

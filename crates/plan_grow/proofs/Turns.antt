@@ -1,5 +1,5 @@
 -- The turns of a chain: of the rows first met at a step, and of the steps handed on to it.
-use mathlib.Core.Bool.{true, cond}
+use mathlib.Core.Bool.{true}
 use mathlib.Core.List.{List, [], ◌∷◌, ◌++◌}
 use mathlib.Core.Logic.{⊎_elim}
 use mathlib.Core.Path.{◌≡◌, refl, ap, ◌∙◌}
@@ -10,68 +10,34 @@ use native.Mathlib.Omega.{arith}
 use lib.Dec.{eqb}
 use lib.ListN.{length, take, drop, get_or, set, length-append, length-set}
 use lib.Seq.{take-suc-set}
-use borrow.Author.Tests.{eqb-false, eq-eqb, ne_eqb}
-use Rattle.lists.specs.Sets.{member, Ascending, Falling, union}
-use Rattle.lists.proofs.Members.{by_test, member_head, member_cases, not-member-nil, union-nil_right, union_cases}
+use borrow.Author.Tests.{eq-eqb, ne_eqb}
+use Rattle.lists.specs.Sets.{member, Ascending, union}
+use Rattle.lists.proofs.Members.{by_test, member_head, member_tail, member_cases, not-member-nil, union-nil_right, union_cases}
 use Rattle.lists.proofs.Order.{member-low, ascending_weaken, union-append}
-use Rattle.lists.proofs.Once.{falling_weaken, falling-high}
 use Rattle.lists.proofs.Small.{below_size, before_size, still_below}
 use Rattle.foundation.specs.Pattern.{Lent, lent, pattern_of}
 use Rattle.foundation.specs.Plan.{Side, lower, upper, brings}
 use Rattle.foundation.specs.PlanCall.{SideStores}
 use Rattle.foundation.specs.Subscripts.{kept}
-use Rattle.store_lists.specs.Chains.{Linked}
 use Rattle.store_place.specs.Places.{ListAsks}
 use Rattle.plan_pattern.proofs.Judging.{fitted}
 use Rattle.plan_gather.specs.Ready.{lent_by, Ready, plan_of}
 use Rattle.plan_gather.specs.Gathering.{without, Within, GrownIn}
 use Rattle.plan_gather.specs.Steps.{StepOf, kept_rows, kept_steps}
-use Rattle.plan_gather.proofs.Chaining.{step_in, steps_fall}
+use Rattle.plan_gather.proofs.Chaining.{step_in}
 use Rattle.plan_gather.proofs.Contains.{Opened, contains_opens, opened-asks}
 use Rattle.plan_gather.proofs.Gathering.{RowRead, row_read, met_row, met_ascend, brings-within, from-rows_is, from-rows-within, handed_within, from-steps_is}
 use Rattle.plan_gather.proofs.Joining.{within_none, within-length, joined_within, grown_none}
 use Rattle.plan_gather.proofs.Turning.{step_high}
 use Rattle.plan_grow.specs.Growing.{StepsReady}
-use Rattle.plan_grow.proofs.Growing.{Gathers, gathers_here, gathers_order, gathers_turn}
+use Rattle.plan_grow.proofs.Growing.{Gathers, gathers_here, gathers_turn}
 
 -- ---- a turn over the rows first met
 
--- how many rows a chain of rows may still have
-abbrev pub left : ℕ → ℕ → ℕ
-left n i = cond (eqb i 0) 0 (suc n - i)
-
-left_some : (n i : ℕ) → (i ≡ 0 → ⊥) → left n i ≡ suc n - i
-left_some n i some = rw (ne_eqb i 0 some)
-
--- what the rows of a chain, joined so far, are to make
-abbrev pub RowsJoined : Lent → Side → ℕ → ℕ → (growing links : List ℕ) → ℕ → Type 0
-RowsJoined p side k count growing links i =
-    Gathers p.height k count growing links i (Ascending 0) (λ r. without k (brings (pattern_of p) side r)) ((plan_of p).first_met k)
-    (kept_rows p side k)
-
--- an ascending chain goes on ascending
-pub rows_on : (i : ℕ) (later : List ℕ) → Ascending 0 (i ∷ later) → Ascending 0 later
-unfolding Ascending
-rows_on i later h = ascending_weaken 0 (suc i) later (omega arith) h.1
-
--- the row behind a row is above it
-rows_rise :
-    {n k count i : ℕ} {growing links all whole : List ℕ} {part : ℕ → List ℕ}
-    → Gathers n k count growing links i (Ascending 0) part all whole → (i ≡ 0 → ⊥) → (get_or links i 0 ≡ 0 → ⊥) → i < get_or links i 0
-unfolding Ascending
-rows_rise {i = i} {links = links} g some more =
-    let (later, up, next) = gathers_order g some in
-    ⊎_elim (λ z. absurd (more z)) (member-low (get_or links i 0) (suc i) later up.1) next
-
--- and so the chain comes to its end
-pub rows_less :
-    {room n k count i : ℕ} {growing links all whole : List ℕ} {part : ℕ → List ℕ}
-    → Gathers room k count growing links i (Ascending 0) part all whole → (i ≡ 0 → ⊥) → i ≤ n → left n (get_or links i 0) < left n i
-rows_less {n = n} {i = i} {links = links} g some high =
-    rw (left_some n i some)
-    (by_test (eqb (get_or links i 0) 0)
-    (λ e. rw e (omega arith))
-    (λ e. let l = rows_rise g some (eqb-false (get_or links i 0) 0 e) in rw e (omega arith)))
+-- what the rows of a chain, joined up to what is left, are to make
+abbrev pub RowsJoined : Lent → Side → ℕ → ℕ → (growing left : List ℕ) → Type 0
+RowsJoined p side k count growing left =
+    Gathers p.height k count growing (λ r. without k (brings (pattern_of p) side r)) ((plan_of p).first_met k) (kept_rows p side k) left
 
 -- step k of a pattern that is lent
 pub lent_step : (n : ℕ) (starts columns : List ℕ) {k : ℕ} → Ready (lent_by n starts columns) × (1 ≤ k) × (k ≤ n) → StepOf (lent_by n starts columns) n k
@@ -80,17 +46,12 @@ lent_step n starts columns (ready, low, high) = record { ready = ready; same_n =
 
 module _ {p : Lent} {n k : ℕ} (of : StepOf p n k) where
   -- the chain from its first member on
-  pub rows_start :
-      (side : Side) (growing links : List ℕ) (first : ℕ) → length growing ≡ p.height → Linked links first ((plan_of p).first_met k)
-      → RowsJoined p side k 0 growing links first
-  rows_start side growing links first size h =
+  pub rows_start : (side : Side) (growing : List ℕ) → length growing ≡ p.height → RowsJoined p side k 0 growing ((plan_of p).first_met k)
+  rows_start side growing size =
       record {
         so_far = [];
-        rest = (plan_of p).first_met k;
         grown = grown_none p.height growing size;
         within = within_none (suc k) p.height;
-        linked = h;
-        ordered = met_ascend p of.ready k of.low (step_high of);
         among = λ i e. e;
         comes = from-rows_is p of.ready k of.low (step_high of) side;
       }
@@ -119,17 +80,21 @@ module _ (n : ℕ) (starts columns : List ℕ) {k : ℕ} (of : StepOf (lent_by n
 
 -- ---- their own numbers
 
--- What the rows of a chain, joined so far, are to make of L. They are all below the row that comes next.
-pub record NumbersJoined (p : Lent) (k count : ℕ) (growing links : List ℕ) (i : ℕ) : Type 0 where
-  pub joined : RowsJoined p lower k count growing links i
-  pub below : (x : ℕ) → member x (take count growing) ≡ true → (i ≡ 0 → ⊥) → x < i
+-- What the rows of a chain, joined up to what is left, are to make of L. They are all below those that are left.
+pub record NumbersJoined (p : Lent) (k count : ℕ) (growing left : List ℕ) : Type 0 where
+  pub joined : RowsJoined p lower k count growing left
+  pub ordered : Ascending 0 left
+  pub below : (x y : ℕ) → member x (take count growing) ≡ true → member y left ≡ true → x < y
 
 -- the chain from its first member on
 pub numbers_start :
-    {p : Lent} {n k : ℕ} → StepOf p n k → (growing links : List ℕ) (first : ℕ) → length growing ≡ p.height → Linked links first ((plan_of p).first_met k)
-    → NumbersJoined p k 0 growing links first
-numbers_start of growing links first size h =
-    record { joined = rows_start of lower growing links first size h; below = λ x m some. absurd (not-member-nil x m) }
+    {p : Lent} {n k : ℕ} → StepOf p n k → (growing : List ℕ) → length growing ≡ p.height → NumbersJoined p k 0 growing ((plan_of p).first_met k)
+numbers_start {p = p} {k = k} of growing size =
+    record {
+      joined = rows_start of lower growing size;
+      ordered = met_ascend p of.ready k of.low (step_high of);
+      below = λ x y m n. absurd (not-member-nil x m);
+    }
 
 -- a row alone, without k, has no other member
 alone : (k i x : ℕ) → member x (without k (i ∷ [])) ≡ true → x ≡ i
@@ -139,12 +104,12 @@ alone k i x m =
     (λ e. absurd (not-member-nil x (rw e at m)))
     (λ e. ⊎_elim (λ q. q) (λ none. absurd (not-member-nil x none)) (member_cases x i [] (rw e at m)))
 
-module _ {p : Lent} {n k count i : ℕ} {growing links : List ℕ} (of : StepOf p n k) (j : NumbersJoined p k count growing links i)
-    (some : i ≡ 0 → ⊥) where
+module _ {p : Lent} {n k count i : ℕ} {growing left later : List ℕ} (of : StepOf p n k) (j : NumbersJoined p k count growing left)
+    (next : left ≡ i ∷ later) where
   -- what the row brings, itself alone, lies within bounds
   number-within : Within k p.height (i ∷ [])
   unfolding brings
-  number-within = brought_within of lower i (gathers_here j.joined some).0 (i ∷ []) refl
+  number-within = brought_within of lower i (gathers_here j.joined next) (i ∷ []) refl
 
   -- the row is one of the pattern's
   pub number-high : i ≤ p.height
@@ -152,7 +117,7 @@ module _ {p : Lent} {n k count i : ℕ} {growing links : List ℕ} (of : StepOf 
 
   -- and all that is grown is below it
   so_far_below : (x : ℕ) → member x j.joined.so_far ≡ true → x < i
-  so_far_below x m = j.below x (rw j.joined.grown.is m) some
+  so_far_below x m = j.below x i (rw j.joined.grown.is m) (rw next (member_head i later))
 
   -- k itself is left out
   pub number_passed : i ≡ k → GrownIn p.height count growing (union j.joined.so_far (without k (i ∷ [])))
@@ -190,37 +155,25 @@ module _ {p : Lent} {n k count i : ℕ} {growing links : List ℕ} (of : StepOf 
   -- either way the chain goes on
   pub numbers-turn :
       {count' : ℕ} {growing' : List ℕ} → GrownIn p.height count' growing' (union j.joined.so_far (without k (i ∷ [])))
-      → NumbersJoined p k count' growing' links (get_or links i 0)
-  unfolding brings
+      → NumbersJoined p k count' growing' later
+  unfolding brings Ascending
   numbers-turn h =
+      let up : Ascending 0 (i ∷ later) = rw next at j.ordered in
       record {
-        joined = gathers_turn j.joined some (i ∷ []) number-within refl (rows_on i) h;
-        below = λ x m more.
-            let up = rows_rise j.joined some more in
-            ⊎_elim (λ e. omega (arith, so_far_below x e)) (λ e. omega (arith, alone k i x e))
+        joined = gathers_turn j.joined next (i ∷ []) number-within refl h;
+        ordered = ascending_weaken 0 (suc i) later (omega arith) up.1;
+        below = λ x y m n.
+            ⊎_elim (λ e. j.below x y (rw j.joined.grown.is e) (rw next (member_tail y i later n)))
+            (λ e. omega (arith, alone k i x e, member-low y (suc i) later up.1 n))
             (union_cases x j.joined.so_far (without k (i ∷ [])) (rw h.is at m));
       }
 
 -- ---- a turn over the steps handed on
 
--- what the steps of a chain, joined so far, are to make
-abbrev pub StepsJoined : Lent → Side → ℕ → ℕ → ℕ → (growing links : List ℕ) → ℕ → Type 0
-StepsJoined p side n k count growing links l =
-    Gathers p.height k count growing links l (Falling (suc n)) (λ m. without k (kept (plan_of p) side m)) ((plan_of p).S k) (kept_steps p side k)
-
--- a falling chain goes on falling
-pub steps_on : (n l : ℕ) (later : List ℕ) → Falling (suc n) (l ∷ later) → Falling (suc n) later
-unfolding Falling
-steps_on n l later h = falling_weaken l (suc n) later (omega arith) h.1
-
--- and so comes to its end
-pub steps_less :
-    (n : ℕ) {room k count l : ℕ} {growing links all whole : List ℕ} {part : ℕ → List ℕ}
-    → Gathers room k count growing links l (Falling (suc n)) part all whole → (l ≡ 0 → ⊥) → get_or links l 0 < l
-unfolding Falling
-steps_less n {l = l} {links = links} g some =
-    let (later, down, next) = gathers_order g some in
-    ⊎_elim (λ z. omega arith) (λ m. falling-high (get_or links l 0) l later down.1 m) next
+-- what the steps of a chain, joined up to what is left, are to make
+abbrev pub StepsJoined : Lent → Side → ℕ → ℕ → (growing left : List ℕ) → Type 0
+StepsJoined p side k count growing left =
+    Gathers p.height k count growing (λ m. without k (kept (plan_of p) side m)) ((plan_of p).S k) (kept_steps p side k) left
 
 -- A step handed on to k is read.
 pub record StepRead (p : Lent) (side : Side) (n k l : ℕ) (i : SideStores) : Type 0 where
@@ -241,18 +194,15 @@ step_asks r room =
 module _ {p : Lent} {side : Side} {n k first : ℕ} {links : List ℕ} {i : SideStores} {count : ℕ} {growing : List ℕ}
     (s : StepsReady p side n k first links i count growing) where
   -- the chain from its first member on
-  pub steps_start : StepsJoined p side n k count growing links first
+  pub steps_start : StepsJoined p side k count growing ((plan_of p).S k)
   steps_start =
       let e = s.step.same_n in
       let low = s.step.low in
       let high = s.step.high in
       record {
         so_far = kept_rows p side k;
-        rest = (plan_of p).S k;
         grown = s.grown;
         within = from-rows-within p s.step.ready k low (omega arith) side;
-        linked = s.linked;
-        ordered = falling_weaken (suc p.n) (suc n) ((plan_of p).S k) (omega arith) (steps_fall p s.step.ready k);
         among = λ i m. m;
         comes = from-steps_is p s.step.ready k low (omega arith) side;
       }

@@ -1,5 +1,6 @@
 // A list that grows by unions, at the front of a store of its own: by what rows bring (report, 2.2), and by the lists of steps (2.4).
-ghost use Rattle.std.specs.Prelude.{List, ◌≡◌, ℕ, suc, ◌≤◌, length};
+ghost use Rattle.std.specs.Prelude.{List, ◌≡◌, ℕ, suc, ◌-◌, ◌≤◌, ◌<◌, length, take, drop, get_or};
+ghost use Rattle.lists.specs.Functions.{span};
 ghost use Rattle.lists.specs.Sets.{union};
 ghost use Rattle.foundation.specs.Pattern.{Lent};
 ghost use Rattle.foundation.specs.Plan.{Side, lower, upper};
@@ -11,9 +12,9 @@ ghost use Rattle.plan_gather.specs.Steps.{StepOf, kept_rows, kept_steps};
 ghost use Rattle.plan_grow.specs.Growing.{StepsReady};
 
 use plan_gather::after_first;
-use store_lists::{append, list_at, merge_in};
+use store_lists::{append, list_at, merge_in, walk};
 use store_place::list_place;
-use store_search::{Behind, search_behind};
+use store_search::search_behind;
 
 // A list joins the growing one, without the step at hand, k: how many members there are then. A search tells whether it only adds behind the end: then
 // it is appended, and else merged in place. It is searched where it is likely to add nothing, or only behind the end.
@@ -24,11 +25,19 @@ fn join(search: bool, k: usize, more: &[usize], count: usize, growing: &mut [usi
 {
     let comes = after_first(k, more);
     if search {
-        if let Behind::From(at) = search_behind(&growing[0..count], comes) {
+        if let Some(at) = search_behind(&growing[0..count], comes) {
             return append(&comes[at..], growing, count);
         }
     }
     merge_in(count, comes, growing)
+}
+
+// The columns of row i.
+fn row_columns<'a>(starts: &[usize], columns: &'a [usize], i: usize) -> &'a [usize]
+    requires { (1 ≤ i) × (i < length starts.now) × (get_or starts.now (i - 1) 0 ≤ get_or starts.now i 0) × (get_or starts.now i 0 ≤ length columns.now) }
+    ensures { result.now ≡ take (span starts.now i) (drop (get_or starts.now (i - 1) 0) columns.now) }
+{
+    &columns[starts[i - 1]..starts[i]]
 }
 
 // What the rows of a chain bring to U: their columns. Most of them add nothing, or only behind the end.
@@ -47,12 +56,8 @@ fn columns_of(
     ensures { GrownIn (lent_by n starts.now columns.now).height result growing.new (kept_rows (lent_by n starts.now columns.now) upper k) }
 {
     let mut count = 0;
-    let mut i = first;
-    while i != 0 {
-        let from = starts[i - 1];
-        let to = starts[i];
-        count = join(true, k, &columns[from..to], count, growing);
-        i = links[i];
+    for i in walk(first, links) {
+        count = join(true, k, row_columns(starts, columns, i), count, growing);
     }
     count
 }
@@ -64,13 +69,11 @@ fn numbers_of(n: usize, k: usize, first: usize, links: &[usize], growing: &mut [
         → GrownIn p.height result growing.new (kept_rows p lower k) }
 {
     let mut count = 0;
-    let mut i = first;
-    while i != 0 {
+    for i in walk(first, links) {
         if i != k {
             growing[count] = i;
             count += 1;
         }
-        i = links[i];
     }
     count
 }
@@ -115,8 +118,7 @@ pub fn from_steps(
         → GrownIn p.height result growing.new (kept_steps p side k) }
 {
     let mut count = gathered;
-    let mut l = first;
-    while l != 0 {
+    for l in walk(first, links) {
         let lies = list_place(starts, slots, l);
         count = join(
             count == 0,
@@ -125,7 +127,6 @@ pub fn from_steps(
             count,
             growing,
         );
-        l = links[l];
     }
     count
 }

@@ -8,13 +8,13 @@ ghost use Rattle.answers.specs.RunStores.{run_stores};
 ghost use Rattle.run_clear.specs.Blanks.{blanked, ClearedIfStopped};
 
 use answers::RunOutcome;
-use store_clear::{clear, fill_floats};
+use store_clear::clear;
 
 // Every place of a work store of f64 becomes +0.
 pub fn clear_floats(store: &mut [f64])
     ensures { store.new ≡ work_store plus_zero (length store.old) }
 {
-    fill_floats(store, 0.0);
+    store.fill(0.0);
 }
 
 // The five result stores are cleared.
@@ -28,10 +28,10 @@ pub fn clear_results(
     ensures { run_stores l.new u.new d.new x.new pivots.new
         ≡ blanked (run_stores l.old u.old d.old x.old pivots.old) }
 {
-    fill_floats(l, 0.0);
-    fill_floats(u, 0.0);
-    fill_floats(d, 0.0);
-    fill_floats(x, 0.0);
+    l.fill(0.0);
+    u.fill(0.0);
+    d.fill(0.0);
+    x.fill(0.0);
     clear(pivots);
 }
 

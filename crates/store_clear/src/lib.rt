@@ -1,8 +1,6 @@
-// Stores that are cleared, or filled with one value: those of every part.
+// Stores of numbers that are cleared: those of every part.
 #![tactic(auto)]
 
-mod floats;
 mod numbers;
 
-pub use floats::fill_floats;
 pub use numbers::clear;

@@ -5,9 +5,5 @@ ghost use Rattle.store_clear.specs.Clearing.{Zeros};
 pub fn clear(store: &mut [usize])
     ensures { Zeros store.old store.new }
 {
-    let mut i = 0;
-    while i < store.len() {
-        store[i] = 0;
-        i += 1;
-    }
+    store.fill(0);
 }

@@ -1,32 +1,21 @@
 -- Laws of lists kept as chains: one member more, and walking a chain.
 use mathlib.Core.Bool.{true}
 use mathlib.Core.List.{List, [], ◌∷◌}
-use mathlib.Core.Path.{◌≡◌, refl, sym, ap, ◌∙◌}
-use Prim.Native.Nat.{ℕ, zero, suc, ◌+◌, ◌-◌, ◌≤◌, ◌<◌}
+use mathlib.Core.Logic.{⊎_elim}
+use mathlib.Core.Path.{◌≡◌, refl, ap, ◌∙◌}
+use Prim.Native.Nat.{ℕ, suc, ◌+◌, ◌≤◌, ◌<◌}
 use native.Mathlib.Omega.{arith}
 use lib.Dec.{eqb}
 use lib.ListN.{length, set, get_or, replicate, length-set, length-replicate, get_or-replicate}
 use lib.Seq.{get_or-set_same, get_or-set_other}
 use borrow.Author.Tests.{eqb-true, eqb-false}
-use Rattle.lists.specs.Functions.{update, total, span}
-use Rattle.lists.specs.Sets.{member, Ascending, Falling}
-use Rattle.lists.proofs.Members.{by_test, member_head, member_tail}
-use Rattle.lists.proofs.Order.{ascending_weaken}
+use Rattle.lists.specs.Functions.{update, total}
+use Rattle.lists.specs.Sets.{member}
+use Rattle.lists.proofs.Members.{by_test, member_head, member_tail, member_cases, not-member-nil}
 use Rattle.lists.proofs.Places.{update_same, update-untouched}
-use Rattle.store_lists.specs.Chains.{Linked, Chained, both_spans, RowsWalk, StepsWalk}
+use Rattle.store_lists.specs.Chains.{Linked, linked_unique, Chained, Sized}
 
 -- ---- one chain
-
--- the links tell the list
-pub linked_unique : (links : List ℕ) (x : ℕ) (xs ys : List ℕ) → Linked links x xs → Linked links x ys → xs ≡ ys
-unfolding Linked
-linked_unique links x [] [] h k = refl
-linked_unique links x [] (y ∷ ys) h k = absurd (omega arith)
-linked_unique links x (y ∷ ys) [] h k = absurd (omega arith)
-linked_unique links x (y ∷ ys) (z ∷ zs) h k =
-    let q : z ≡ y = sym k.0 ∙ h.0 in
-    let rest : ys ≡ zs = linked_unique links (get_or links y 0) ys zs h.3 (rw q at k.3) in
-    cc
 
 -- a write at a place that is no member keeps a chain
 pub linked-frame : (links : List ℕ) (x y v : ℕ) (xs : List ℕ) → (member y xs ≡ true → ⊥) → Linked links x xs → Linked (set links y v) x xs
@@ -52,6 +41,12 @@ pub linked_next : (links : List ℕ) (x : ℕ) (xs : List ℕ) → (x ≡ 0 → 
 unfolding Linked
 linked_next links x [] d h = absurd (d h)
 linked_next links x (y ∷ ys) d h = (ys, rw h.0, rw h.0 h.2, rw h.0 h.3)
+
+-- what is left behind the first member of a chain
+pub linked_rest : (links : List ℕ) (x : ℕ) (xs later : List ℕ) → (x ≡ 0 → ⊥) → Linked links x xs → Linked links (get_or links x 0) later → xs ≡ x ∷ later
+linked_rest links x xs later d h rest =
+    let (ys, e, inside, on) = linked_next links x xs d h in
+    e ∙ ap (λ (zs : List ℕ). x ∷ zs) (linked_unique links (get_or links x 0) ys later on rest)
 
 -- ---- all chains
 
@@ -117,165 +112,53 @@ chained_drop heads links last n lists k low high h =
 
 -- ---- walking a chain
 
--- Where a chain is walked that begins at `head`, `rest` is still to come, and the sizes of the members passed sum to `done`.
-pub record Walked (links : List ℕ) (head : ℕ) (size : ℕ → ℕ) (done x : ℕ) (rest : List ℕ) : Type 0 where
-  pub ahead : Linked links x rest
-  pub small : done + total size rest < 4294967296
-  pub same : (all : List ℕ) → Linked links head all → done + total size rest ≡ total size all
+-- the members of a chain are above 0
+pub linked_above : (links : List ℕ) (x : ℕ) (xs : List ℕ) → Linked links x xs → (y : ℕ) → member y xs ≡ true → 0 < y
+unfolding Linked
+linked_above links x [] h y m = absurd (not-member-nil y m)
+linked_above links x (z ∷ zs) h y m =
+    ⊎_elim (λ (q : y ≡ z). rw q h.1) (λ later. linked_above links (get_or links z 0) zs h.3 y later) (member_cases y z zs m)
 
--- nothing is passed yet
-pub walk_start : (links : List ℕ) (head : ℕ) (size : ℕ → ℕ) (all : List ℕ) → Linked links head all → total size all < 4294967296
-    → Walked links head size 0 head all
-walk_start links head size all h fits = record {
-  ahead = h;
-  small = omega arith;
-  same = λ all' h'. let e : total size all ≡ total size all' = ap (total size) (linked_unique links head all all' h h') in omega arith;
-}
-
--- a member is passed
-pub walk_turn : (links : List ℕ) (head : ℕ) (size : ℕ → ℕ) (done x : ℕ) (rest : List ℕ) → (x ≡ 0 → ⊥) → Walked links head size done x rest
-    → (later : List ℕ) × (rest ≡ x ∷ later) × (x < length links) × (done + size x < 4294967296) × Walked links head size (done + size x) (get_or links x 0) later
+-- a member's size is at most that of all
+pub total_member : (size : ℕ → ℕ) (x : ℕ) (xs : List ℕ) → member x xs ≡ true → size x ≤ total size xs
 unfolding total
-walk_turn links head size done x rest d w =
-    let (later, e, inside, on) = linked_next links x rest d w.ahead in
-    let sum : total size rest ≡ size x + total size later = ap (total size) e in
-    let fits = w.small in (
-      later,
-      e,
-      inside,
-      omega arith,
-      record { ahead = on; small = omega arith; same = λ all h. let s = w.same all h in omega arith },
-    )
+total_member size x [] m = absurd (not-member-nil x m)
+total_member size x (y ∷ ys) m =
+    ⊎_elim (λ (q : x ≡ y). rw q (omega arith)) (λ later. omega (arith, total_member size x ys later)) (member_cases x y ys m)
 
--- every member is passed
-pub walk_end : (links : List ℕ) (head : ℕ) (size : ℕ → ℕ) (done x : ℕ) (rest : List ℕ) → x ≡ 0 → Walked links head size done x rest
-    → (all : List ℕ) → Linked links head all → done ≡ total size all
-unfolding total
-walk_end links head size done x rest z w all h =
-    let s = w.same all h in
-    let e : total size rest ≡ 0 = rw (linked_end links x rest z w.ahead) in
-    omega arith
+-- Where a chain is walked, `left` is still to come, and the sizes of the members passed sum to `done`.
+pub record Walked (size : ℕ → ℕ) (all : List ℕ) (done : ℕ) (left : List ℕ) : Type 0 where
+  pub among : (x : ℕ) → member x left ≡ true → member x all ≡ true
+  pub same : done + total size left ≡ total size all
 
--- how many rows may be ahead where row i is next, 0 standing for none
-unfoldable pub rows_ahead : List ℕ → ℕ → ℕ
-rows_ahead starts zero = 0
-rows_ahead starts (suc i) = length starts - suc i
+module _ {post : ℕ → ℕ → Type 0} {links : List ℕ} {first : ℕ} {size : ℕ → ℕ} {all : List ℕ} (a : Sized post links first size all) where
+  -- nothing is passed yet
+  pub walk_start : Walked size all 0 all
+  walk_start = record { among = λ x m. m; same = omega arith }
 
--- The invariant of `row_reads`: the rows that are still to come ascend and lie inside.
-pub record RowsLeft (links : List ℕ) (head : ℕ) (starts : List ℕ) (done i : ℕ) : Type 0 where
-  pub rest : List ℕ
-  pub walked : Walked links head (span starts) done i rest
-  pub ascending : Ascending 1 rest
-  pub inside : (j : ℕ) → member j rest ≡ true → (j < length starts) × (get_or starts (j - 1) 0 ≤ get_or starts j 0)
+  module _ {done : ℕ} {left : List ℕ} (w : Walked size all done left) where
+    module _ {x : ℕ} {later : List ℕ} (next : left ≡ x ∷ later) where
+      -- the next member
+      pub walk_member : member x all ≡ true
+      walk_member = w.among x (rw next (member_head x later))
 
--- what a turn of it needs and leaves
-pub record RowsTurn (links : List ℕ) (head : ℕ) (starts : List ℕ) (done i : ℕ) : Type 0 where
-  pub in_links : i < length links
-  pub in_starts : i < length starts
-  pub rising : get_or starts (i - 1) 0 ≤ get_or starts i 0
-  pub small : done + span starts i < 4294967296
-  pub left : RowsLeft links head starts (done + span starts i) (get_or links i 0)
-  pub less : rows_ahead starts (get_or links i 0) < rows_ahead starts i
+      sum : total size left ≡ size x + total size later
+      unfolding total
+      sum = ap (total size) next
 
--- the next row is further on, or there is none
-next_ahead : (links starts : List ℕ) (i j : ℕ) (later : List ℕ) → Linked links j later → Ascending (suc i) later
-    → ((r : ℕ) → member r later ≡ true → (r < length starts) × (get_or starts (r - 1) 0 ≤ get_or starts r 0)) → 0 < i → i < length starts
-    → rows_ahead starts j < rows_ahead starts i
-unfolding rows_ahead Linked Ascending
-next_ahead links starts zero j later h a inside d l = absurd (omega arith)
-next_ahead links starts (suc i) j [] h a inside d l = rw h (omega arith)
-next_ahead links starts (suc i) j (zero ∷ later) h a inside d l = absurd (omega arith)
-next_ahead links starts (suc i) j (suc y ∷ later) h a inside d l = rw h.0 (omega (arith, inside (suc y) (member_head (suc y) later)))
+      module _ (r : ℕ) (p : post x r) where
+        is : r ≡ size x
+        is = a.gives x r walk_member p
 
--- where `row_reads` starts, and a turn of it
-pub rows_left : (links : List ℕ) (head : ℕ) (starts rows : List ℕ) → RowsWalk links head starts rows → RowsLeft links head starts 0 head
-rows_left links head starts rows w = record {
-  rest = rows;
-  walked = walk_start links head (span starts) rows w.linked w.small;
-  ascending = w.ascending;
-  inside = w.inside;
-}
+        -- what the function gives at it does not pass the whole
+        pub walk_fits : done + r ≤ total size all
+        walk_fits = omega (arith, is, sum, w.same)
 
-pub rows_left_turn : (links : List ℕ) (head : ℕ) (starts : List ℕ) (done i : ℕ) → (i ≡ 0 → ⊥) → RowsLeft links head starts done i → RowsTurn links head starts done i
-unfolding Ascending
-rows_left_turn links head starts done i d w =
-    let (later, e, in_links, small, on) = walk_turn links head (span starts) done i w.rest d w.walked in
-    let a : Ascending 1 (i ∷ later) = rw e at w.ascending in
-    let inside : (j : ℕ) → member j (i ∷ later) ≡ true → (j < length starts) × (get_or starts (j - 1) 0 ≤ get_or starts j 0) = rw e at w.inside in
-    let here = inside i (member_head i later) in
-    let behind : (j : ℕ) → member j later ≡ true → (j < length starts) × (get_or starts (j - 1) 0 ≤ get_or starts j 0) = λ j m. inside j (member_tail j i later m) in
-    record {
-      in_links = in_links;
-      in_starts = here.0;
-      rising = here.1;
-      small = small;
-      left = record { rest = later; walked = on; ascending = ascending_weaken 1 (suc i) later (omega arith) a.1; inside = behind };
-      less = next_ahead links starts i (get_or links i 0) later on.ahead a.1 behind a.0 here.0;
-    }
+        -- and is added
+        pub walk_turn : Walked size all (done + r) later
+        walk_turn = record { among = λ y m. w.among y (rw next (member_tail y x later m)); same = omega (arith, is, sum, w.same) }
 
--- The invariant of `step_reads`: the steps that are still to come fall and lie inside.
-pub record StepsLeft (links : List ℕ) (head : ℕ) (lowers uppers : List ℕ) (done l : ℕ) : Type 0 where
-  pub rest : List ℕ
-  pub walked : Walked links head (both_spans lowers uppers) done l rest
-  pub falling : Falling (suc l) rest
-  pub inside : (j : ℕ) → member j rest ≡ true → (j < length lowers) × (j < length uppers)
-  pub rising : (j : ℕ) → member j rest ≡ true → (get_or lowers (j - 1) 0 ≤ get_or lowers j 0) × (get_or uppers (j - 1) 0 ≤ get_or uppers j 0)
-
--- what a turn of it needs and leaves
-pub record StepsTurn (links : List ℕ) (head : ℕ) (lowers uppers : List ℕ) (done l : ℕ) : Type 0 where
-  pub in_links : l < length links
-  pub in_lowers : l < length lowers
-  pub in_uppers : l < length uppers
-  pub lowers_rise : get_or lowers (l - 1) 0 ≤ get_or lowers l 0
-  pub uppers_rise : get_or uppers (l - 1) 0 ≤ get_or uppers l 0
-  pub small : done + both_spans lowers uppers l < 4294967296
-  pub left : (sum : ℕ) → sum ≡ done + both_spans lowers uppers l → StepsLeft links head lowers uppers sum (get_or links l 0)
-  pub less : get_or links l 0 < l
-
--- a falling chain lies below its first member
-falls-from : (links : List ℕ) (x high : ℕ) (xs : List ℕ) → Linked links x xs → Falling high xs → Falling (suc x) xs
-unfolding Linked Falling
-falls-from links x high [] h f = tt
-falls-from links x high (y ∷ ys) h f = (omega arith, f.1)
-
--- and its first member, or 0, is below the bound
-falls_below : (links : List ℕ) (x high : ℕ) (xs : List ℕ) → Linked links x xs → Falling high xs → 0 < high → x < high
-unfolding Linked Falling
-falls_below links x high [] h f l = omega arith
-falls_below links x high (y ∷ ys) h f l = omega arith
-
--- where `step_reads` starts, and a turn of it
-pub steps_left : (links : List ℕ) (head : ℕ) (lowers uppers steps : List ℕ) → StepsWalk links head lowers uppers steps → StepsLeft links head lowers uppers 0 head
-steps_left links head lowers uppers steps w = record {
-  rest = steps;
-  walked = walk_start links head (both_spans lowers uppers) steps w.linked w.small;
-  falling = falls-from links head (length links) steps w.linked w.falling;
-  inside = w.inside;
-  rising = w.rising;
-}
-
-pub steps_left_turn : (links : List ℕ) (head : ℕ) (lowers uppers : List ℕ) (done l : ℕ) → (l ≡ 0 → ⊥) → StepsLeft links head lowers uppers done l
-    → StepsTurn links head lowers uppers done l
-unfolding Falling
-steps_left_turn links head lowers uppers done l d w =
-    let (later, e, in_links, small, on) = walk_turn links head (both_spans lowers uppers) done l w.rest d w.walked in
-    let f : Falling (suc l) (l ∷ later) = rw e at w.falling in
-    let inside : (j : ℕ) → member j (l ∷ later) ≡ true → (j < length lowers) × (j < length uppers) = rw e at w.inside in
-    let rising : (j : ℕ) → member j (l ∷ later) ≡ true → (get_or lowers (j - 1) 0 ≤ get_or lowers j 0) × (get_or uppers (j - 1) 0 ≤ get_or uppers j 0) =
-    rw e at w.rising in
-    record {
-      in_links = in_links;
-      in_lowers = (inside l (member_head l later)).0;
-      in_uppers = (inside l (member_head l later)).1;
-      lowers_rise = (rising l (member_head l later)).0;
-      uppers_rise = (rising l (member_head l later)).1;
-      small = small;
-      left = λ sum q. record {
-        rest = later;
-        walked = rw q on;
-        falling = falls-from links (get_or links l 0) l later on.ahead f.1;
-        inside = λ j m. inside j (member_tail j l later m);
-        rising = λ j m. rising j (member_tail j l later m);
-      };
-      less = falls_below links (get_or links l 0) l later on.ahead f.1 (omega arith);
-    }
+    -- every member is passed
+    pub walk_end : left ≡ [] → done ≡ total size all
+    unfolding total
+    walk_end none = let sum : total size left ≡ 0 = ap (total size) none in omega (arith, w.same)

@@ -1,4 +1,3 @@
 -- Laws that the proofs of the functions share.
-pub mod Filling
 pub mod Merging
 pub mod Chaining

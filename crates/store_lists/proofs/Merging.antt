@@ -1,150 +1,88 @@
--- Laws of a merge in place: its list is moved to the end of the store, a turn of the merge, and what stands at the front once both lists are passed.
+-- Laws of a merge in place: a turn writes one number, and moves on in one list or in both.
 use mathlib.Core.Path.{◌≡◌, refl, sym, ap, ◌∙◌}
-use mathlib.Core.Logic.{⊎_elim}
-use mathlib.Core.List.{List, [], ◌++◌, append-nil, append_assoc}
-use Prim.Native.Nat.{ℕ, zero, suc, ◌+◌, ◌-◌, ◌≤◌, ◌<◌}
-use native.Mathlib.Nat.{add-zero, add-suc, le_refl}
+use mathlib.Core.List.{List, [], ◌∷◌}
+use Prim.Native.Nat.{ℕ, ◌+◌, ◌-◌, ◌≤◌, ◌<◌}
+use native.Mathlib.Nat.{add-zero}
 use native.Mathlib.Numerals.{add-one}
 use native.Mathlib.Omega.{arith}
-use lib.ListN.{length, take, drop, get_or, set, length-append, length-drop, length-set}
-use lib.Seq.{take_all, take-take, take-set-le, drop-cons, drop-length, drop-set-lt, get_or-set_same, get_or-take, length-take-le}
+use lib.ListN.{length, take, drop, get_or, set, length-drop, length-set, drop_of_length-le}
+use lib.Seq.{drop-cons, get_or-drop, drop-set-lt, take-suc-set, append_snoc, length-take-le, take_all}
+use Rattle.std.specs.List.{copy_within}
+use Rattle.std.proofs.lemmas.List.Edits.{length-paste, take-paste}
 use Rattle.lists.specs.Sets.{union}
 use Rattle.lists.proofs.Members.{union-length, union_less, union_more, union_equal, union-nil_left, union-nil_right}
-use Rattle.lists.proofs.Small.{less_one}
-use Rattle.store_lists.specs.Filling.{Filling}
-use Rattle.store_lists.specs.Merging.{MergedTo}
-use Rattle.store_lists.proofs.Filling.{fill_rest, fill_turn, fill_behind, fill_place, fill_read, appended}
+use Rattle.store_lists.specs.Merging.{Merging}
 
--- The first `count` numbers of the store that was `was` go `gap` places on, the last first: those from `i` on are there, those before it where they were.
-pub record Moving (was now : List ℕ) (count gap i : ℕ) : Type 0 where
-  pub left : i ≤ count
-  pub size : length now ≡ length was
-  pub unmoved : take i now ≡ take i was
-  pub moved : drop (gap + i) now ≡ drop i (take count was)
+module _ (read written : ℕ) (store whole later : List ℕ) (m : Merging read written store whole later) where
+  -- what is written does not pass what is read
+  pub merge_behind : written ≤ read
+  merge_behind = omega (arith, m.inside, m.room, union-length (drop read store) later, length-drop read store)
 
-module _ (was : List ℕ) (count gap : ℕ) (all : gap + count ≡ length was) where
-  -- the numbers that are moved are `count`
-  count_taken : length (take count was) ≡ count
-  count_taken = length-take-le count was (omega arith)
-
-  -- nothing is moved yet
-  pub move_start : Moving was was count gap count
-  move_start =
-      let none : drop count (take count was) ≡ [] = ap (λ (k : ℕ). drop k (take count was)) (sym count_taken) ∙ drop-length (take count was) in
-      record { left = le_refl count; size = refl; unmoved = refl; moved = rw (all, none) (drop-length was) }
-
-  -- a number is moved
-  move-one : (now : List ℕ) (j : ℕ) → Moving was now count gap (suc j) → Moving was (set now (gap + j) (get_or now j 0)) count gap j
-  move-one now j m =
-      let x = get_or now j 0 in
-      let now' = set now (gap + j) x in
-      let size : length now' ≡ length was = length-set now (gap + j) x ∙ m.size in
-      let read : x ≡ get_or was j 0 = sym (get_or-take (suc j) now j 0 (omega arith)) ∙ rw m.unmoved (get_or-take (suc j) was j 0 (omega arith)) in
-      let same : x ≡ get_or (take count was) j 0 = read ∙ sym (get_or-take count was j 0 (omega arith)) in
-      let later : drop (suc (gap + j)) now ≡ drop (suc j) (take count was) = rw (← add-suc gap j) m.moved in
+  -- a number is written, the first of the union that is to come
+  pub merge-turn : (x read' : ℕ) (later' : List ℕ) → written < read' → read' ≤ length store
+      → union (drop read store) later ≡ x ∷ union (drop read' store) later' → Merging read' (written + 1) (set store written x) whole later'
+  merge-turn x read' later' behind inside next =
+      let kept : drop read' (set store written x) ≡ drop read' store = drop-set-lt read' store written x behind in
+      let size : length (union (drop read store) later) ≡ length (x ∷ union (drop read' store) later') = ap length next in
+      let place : written < length store = omega arith in
       record {
-        left = omega arith;
-        size = size;
-        unmoved = take-set-le j now (gap + j) x (omega arith)
-            ∙ sym (take-take j (suc j) now (omega arith)) ∙ rw m.unmoved (take-take j (suc j) was (omega arith));
-        moved = drop-cons now' (gap + j) 0 (omega arith)
-            ∙ rw (get_or-set_same now (gap + j) x 0 (omega arith), drop-set-lt (suc (gap + j)) now (gap + j) x (omega arith), later, same)
-            (sym (drop-cons (take count was) j 0 (omega (arith, count_taken))));
+        inside = simp length-set inside;
+        room = rw (kept, length-set) (omega (arith, m.room));
+        same = rw (kept, add-one, take-suc-set store written x, append_snoc, ← next) m.same;
       }
 
-  -- a turn moves the number before those that are moved
-  pub move-turn : (now : List ℕ) (i : ℕ) → 0 < i → Moving was now count gap i → Moving was (set now (gap + (i - 1)) (get_or now (i - 1) 0)) count gap (i - 1)
-  move-turn now zero h m = absurd (omega arith)
-  move-turn now (suc j) h m = rw less_one (move-one now j m)
+-- The second list's next member is y.
+module _ (read written y : ℕ) (store whole later : List ℕ) (m : Merging read written store whole (y ∷ later)) where
+  -- a number is still to come
+  some_left : (xs : List ℕ) → 0 < length (union xs (y ∷ later))
+  some_left [] = rw union-nil_left (omega arith)
+  some_left (x ∷ xs) = omega (arith, union-length (x ∷ xs) (y ∷ later))
 
-  -- both places of a turn lie in the store
-  pub move-inside : (now : List ℕ) (i : ℕ) → 0 < i → Moving was now count gap i → (i - 1 < length now) × (gap + (i - 1) < length now)
-  move-inside now i h m = (omega arith, omega arith)
+  -- so there is a place for it
+  pub merge_place : written < length store
+  merge_place = omega (arith, m.room, some_left (drop read store))
 
-  -- all are moved
-  pub move_end : (now : List ℕ) (i : ℕ) → i ≤ 0 → Moving was now count gap i → drop gap now ≡ take count was
-  move_end now zero h m = rw add-zero at m.moved
-  move_end now (suc j) h m = absurd (omega arith)
+  -- a number of the first list below y is written
+  pub merge_first : read < length store → get_or store read 0 < y → Merging (read + 1) (written + 1) (set store written (get_or store read 0)) whole (y ∷ later)
+  merge_first left below =
+      merge-turn read written store whole (y ∷ later) m _ _ _ (omega (arith, merge_behind read written store whole (y ∷ later) m)) (omega arith)
+      (rw (add-one, drop-cons store read 0) (union_less _ _ _ _ below))
 
--- A turn of the merge writes the lesser of both first numbers, a common one once. What is left is the union of a list that stands in the store from
--- `a` on, and of the second list from `b` on.
-module _ (was now whole more : List ℕ) (a b count : ℕ) (f : Filling was now whole (union (drop a was) (drop b more)) count) where
-  -- no fewer are still to be written than are left of the first list
-  longer : length (drop a was) ≤ length (union (drop a was) (drop b more))
-  longer = union-length (drop a was) (drop b more)
+  -- y is written, which the first list has too
+  pub merge_common : read < length store → get_or store read 0 ≡ y → Merging (read + 1) (written + 1) (set store written y) whole later
+  merge_common left same =
+      merge-turn read written store whole (y ∷ later) m _ _ _ (omega (arith, merge_behind read written store whole (y ∷ later) m)) (omega arith)
+      (rw (add-one, drop-cons store read 0, ← same) (union_equal _ _ _ _ refl))
 
-  -- so what is written does not pass what is read
-  pub merge_behind : a ≤ length was → count ≤ a
-  merge_behind h = fill_behind was now whole _ a count f longer h
+  -- y goes out first, if what is left of the first list is above it
+  first_out : (xs : List ℕ) → (0 < length xs → y < get_or xs 0 0) → union xs (y ∷ later) ≡ y ∷ union xs later
+  first_out [] above = union-nil_left (y ∷ later) ∙ ap (λ (l : List ℕ). y ∷ l) (sym (union-nil_left later))
+  first_out (x ∷ xs) above = union_more x y xs later (above (omega arith))
 
-  module _ (p : a < length was) where
-    -- there is a place to write
-    pub merge_place : count < length now
-    merge_place = fill_place was now whole _ a count f longer p
+  -- y is written, which the first list does not have
+  pub merge_second : (read < length store → y < get_or store read 0) → Merging read (written + 1) (set store written y) whole later
+  merge_second above =
+      let next : union (drop read store) (y ∷ later) ≡ y ∷ union (drop read store) later = first_out (drop read store)
+      (λ some. simp (get_or-drop, add-zero) (above (omega (arith, length-drop read store)))) in
+      let more : length (union (drop read store) (y ∷ later)) ≡ length (y ∷ union (drop read store) later) = ap length next in
+      merge-turn read written store whole (y ∷ later) m _ _ _ (omega (arith, m.inside, m.room, union-length (drop read store) later, length-drop read store)) m.inside next
 
-    -- and the number that is read is the one that stood there
-    read : get_or now a 0 ≡ get_or was a 0
-    read = fill_read was now whole _ a count f longer p
+-- The second list is passed whole.
+module _ (read written place : ℕ) (store whole more : List ℕ) (m : Merging read written store whole (drop place more)) (passed : length more ≤ place) where
+  -- what is left of the first has room behind what is written
+  pub rest_fits : written + (length store - read) ≤ length store
+  rest_fits = omega (arith, m.inside, merge_behind read written store whole (drop place more) m)
 
-    module _ (q : b < length more) where
-      -- the first list's number is written, the second's, or the one that both have
-      pub first_less : get_or now a 0 < get_or more b 0 → Filling was (set now count (get_or now a 0)) whole (union (drop (a + 1) was) (drop b more)) (count + 1)
-      first_less h = fill_turn was now whole _ count f _ _ (rw (add-one, drop-cons was a 0, drop-cons more b 0, ← read) (union_less _ _ _ _ h))
-
-      pub second_less : get_or more b 0 < get_or now a 0 → Filling was (set now count (get_or more b 0)) whole (union (drop a was) (drop (b + 1) more)) (count + 1)
-      second_less h = fill_turn was now whole _ count f _ _ (rw (add-one, drop-cons was a 0, drop-cons more b 0, ← read) (union_more _ _ _ _ h))
-
-      pub both_same : get_or now a 0 ≡ get_or more b 0
-          → Filling was (set now count (get_or now a 0)) whole (union (drop (a + 1) was) (drop (b + 1) more)) (count + 1)
-      both_same h = fill_turn was now whole _ count f _ _ (rw (add-one a, add-one b, drop-cons was a 0, drop-cons more b 0, ← read) (union_equal _ _ _ _ h))
-
--- a store whose first `count` numbers are moved to its end has room for the union as it had before
-pub moved_fits : (was moved more : List ℕ) (count : ℕ) → length moved ≡ length was → drop (length was - count) moved ≡ take count was
-    → (count ≤ length was) × (length (union (take count was) more) ≤ length was)
-    → (length was - count ≤ length moved) × (length (union (drop (length was - count) moved) more) ≤ length moved)
-moved_fits was moved more count same e (inside, fits) = (omega arith, rw (e, same) fits)
-
--- what is left of a list behind its first b members, as the code hands it on
-abbrev left : List ℕ → ℕ → List ℕ
-left l b = take (length l - b) (drop b l)
-
--- which is the list from there on
-left_is : (l : List ℕ) (b : ℕ) → left l b ≡ drop b l
-left_is l b = take_all (length l - b) (drop b l) (simp length-drop (le_refl (length l - b)))
-
--- One list is passed whole: what is left of the first stands in the store, and what is left of the second is handed on.
-module _ (have more before now : List ℕ) (a b count : ℕ) (m : MergedTo have more before now a b count) where
-  -- what is left of the first list stands behind what is written
-  pub first_stands : (count ≤ a) × (a ≤ length now)
-  first_stands = (merge_behind before now _ more a b count m.filling m.first, rw m.filling.size m.first)
-
-  -- what is still to come of the union
-  rest : union (drop a before) (drop b more) ≡ drop a now ++ left more b
-  rest =
-      rw (left_is more b, fill_rest before now _ _ count m.filling a first_stands.0)
-      (⊎_elim
-      (λ (e : a ≡ length before). rw (e, drop-length before) (union-nil_left (drop b more)))
-      (λ (e : b ≡ length more). rw (e, drop-length more, append-nil) (union-nil_right (drop a before)))
-      m.ended)
-
-  -- so there is room for both
-  both_fit : count + length (drop a now) + length (left more b) ≤ length now
-  both_fit = let p = simp length-append at (ap length rest) in omega arith
-
-  module _ (now₁ : List ℕ) (next : ℕ) (l : length now₁ ≡ length now)
-      (s₁ : (next ≡ count + length (drop a now)) × (now₁ ≡ take count now ++ drop a now ++ drop (count + length (drop a now)) now)) where
-    -- in the store after the first of them too
-    pub second_fits : next + length (left more b) ≤ length now₁
-    second_fits = let p = both_fit in omega (arith, s₁.0)
-
-    -- and after both the union stands at the front of the store
-    pub joined : (now₂ whole : List ℕ) (r : ℕ) → length now₂ ≡ length now₁ → union have more ≡ whole
-        → (r ≡ next + length (left more b)) × (now₂ ≡ take next now₁ ++ left more b ++ drop (next + length (left more b)) now₁)
-        → (r ≡ length whole) × (take r now₂ ≡ whole)
-    joined now₂ whole r k u s₂ =
-        let p = both_fit in
-        let first : take next now₁ ≡ take count now ++ drop a now = appended now now₁ (drop a now) count next (omega arith) s₁ in
-        let both : take r now₂ ≡ take next now₁ ++ left more b = appended now₁ now₂ (left more b) next r second_fits s₂ in
-        let e : take r now₂ ≡ whole = both ∙ rw (first, append_assoc, ← rest) m.filling.written ∙ u in
-        let h = second_fits in
-        (sym (length-take-le r now₂ (omega (arith, s₂.0))) ∙ ap length e, e)
+  -- and moved there, it ends the union
+  pub merge_end : (now : List ℕ) → now ≡ copy_within store read (length store) written
+      → (written + (length now - read) ≡ length whole) × (take (written + (length now - read)) now ≡ whole)
+  merge_end now moved =
+      let rest = drop read store in
+      let n = length store - read in
+      let long : length rest ≡ n = length-drop read store in
+      let behind = merge_behind read written store whole (drop place more) m in
+      let size : length now ≡ length store = ap length moved ∙ length-paste store written rest n rest_fits (omega (arith, long)) in
+      let all : take (written + (length now - read)) now ≡ whole = rw (size, moved, take-paste store written rest n (omega (arith, m.inside)) (omega (arith, long)), take_all n rest (omega (arith, long)))
+      (rw (drop_of_length-le more passed, union-nil_right) at m.same) in
+      let count : length (take (written + (length now - read)) now) ≡ written + (length now - read) = length-take-le _ now (omega (arith, rest_fits, size)) in
+      (sym count ∙ ap length all, all)

@@ -1,5 +1,4 @@
 -- What the contracts cite.
 pub mod Clearing
-pub mod Filling
 pub mod Merging
 pub mod Chains

@@ -2,7 +2,9 @@
 // the end. Who joins last stands first.
 ghost use Rattle.std.specs.Prelude.{List, ◌≡◌, ℕ, ◌<◌, length, set, get_or};
 ghost use Rattle.lists.specs.Functions.{total, span};
-ghost use Rattle.store_lists.specs.Chains.{Linked, both_spans, RowsWalk, StepsWalk};
+ghost use Rattle.store_lists.specs.Chains.{Linked, Sized, AddsUp, both_spans, RowsWalk, StepsWalk};
+
+use crate::walking::walk;
 
 // x joins the chain of k.
 pub fn push(heads: &mut [usize], links: &mut [usize], k: usize, x: usize)
@@ -13,18 +15,24 @@ pub fn push(heads: &mut [usize], links: &mut [usize], k: usize, x: usize)
     heads[k] = x;
 }
 
+// What the members of a chain have together, each by a count of its own.
+fn total_over<F: Fn(usize) -> usize>(first: usize, links: &[usize], count: F) -> usize
+    requires { (size : ℕ → ℕ) × (all : List ℕ) × AddsUp (F.pre count) (F.post count) links.now first size all }
+    ensures { (size : ℕ → ℕ) (all : List ℕ) → Sized (F.post count) links.now first size all → result ≡ total size all }
+{
+    let mut sum = 0;
+    for x in walk(first, links) {
+        sum += count(x);
+    }
+    sum
+}
+
 // How many columns the rows of a chain have together.
 pub fn row_reads(first: usize, links: &[usize], starts: &[usize]) -> usize
     requires { (rows : List ℕ) × RowsWalk links.now first starts.now rows }
     ensures { (rows : List ℕ) → Linked links.now first rows → result ≡ total (span starts.now) rows }
 {
-    let mut reads = 0;
-    let mut i = first;
-    while i != 0 {
-        reads += starts[i] - starts[i - 1];
-        i = links[i];
-    }
-    reads
+    total_over(first, links, |i| starts[i] - starts[i - 1])
 }
 
 // How many members the lists L and U of the steps of a chain have together.
@@ -32,12 +40,9 @@ pub fn step_reads(first: usize, links: &[usize], lowers: &[usize], uppers: &[usi
     requires { (steps : List ℕ) × StepsWalk links.now first lowers.now uppers.now steps }
     ensures { (steps : List ℕ) → Linked links.now first steps → result ≡ total (both_spans lowers.now uppers.now) steps }
 {
-    let mut reads = 0;
-    let mut l = first;
-    while l != 0 {
-        reads += lowers[l] - lowers[l - 1] + 1;
-        reads += uppers[l] - uppers[l - 1] + 1;
-        l = links[l];
-    }
-    reads
+    total_over(
+        first,
+        links,
+        |l| lowers[l] - lowers[l - 1] + 1 + (uppers[l] - uppers[l - 1] + 1),
+    )
 }

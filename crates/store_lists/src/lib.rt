@@ -5,8 +5,10 @@ mod chains;
 mod clear;
 mod places;
 mod unions;
+mod walking;
 
 pub use chains::{push, row_reads, step_reads};
 pub use clear::{clear_chains, clear_side, clear_work};
 pub use places::list_at;
 pub use unions::{append, merge_in};
+pub use walking::{Chain, walk};

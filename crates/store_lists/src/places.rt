@@ -8,7 +8,5 @@ pub fn list_at(subs: &[usize], from: SubscriptPlace, to: SubscriptPlace) -> &[us
     requires { (from.0 ≤ to.0) × (to.0 ≤ length subs.now) }
     ensures { result.now ≡ take (to.0 - from.0) (drop from.0 subs.now) }
 {
-    let first = from.0;
-    let end = to.0;
-    &subs[first..end]
+    &subs[from.0..to.0]
 }

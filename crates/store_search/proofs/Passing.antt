@@ -2,43 +2,44 @@
 use mathlib.Core.Bool.{true}
 use mathlib.Core.List.{List, [], ◌∷◌, ◌++◌, append-nil, append_assoc}
 use mathlib.Core.Logic.{⊎_elim}
-use mathlib.Core.Path.{◌≡◌, refl, sym, ap, ◌∙◌}
-use Prim.Native.Nat.{ℕ, zero, suc, ◌+◌, ◌-◌, ◌≤◌, ◌<◌}
-use native.Mathlib.Numerals.{add-one}
+use mathlib.Core.Path.{◌≡◌, refl, sym, ◌∙◌}
+use Prim.Native.Nat.{ℕ, suc, ◌-◌, ◌<◌}
 use native.Mathlib.Omega.{arith}
-use lib.ListN.{length, take, drop, get_or, take-append-drop, length-take, length-drop}
-use lib.Seq.{drop-cons, drop-length, take-suc, take-add, drop-drop, append_snoc}
+use lib.ListN.{length, get_or}
+use lib.Seq.{append_snoc}
 use Rattle.lists.specs.Sets.{member, union, Ascending}
-use Rattle.lists.proofs.Members.{member_head, member_tail, member_cases, not-member-nil, union_less, union_equal, union-nil_left, union-nil_right, member-append, or_right, drop_in}
+use Rattle.lists.proofs.Members.{member_head, member_tail, member_cases, not-member-nil, member-append, or_right, union_less, union_equal, union-nil_left, union-nil_right}
+use Rattle.lists.proofs.Order.{member-above}
 use Rattle.lists.proofs.Places.{member_last}
-use Rattle.store_search.specs.Behind.{Passed}
-
--- ---- ascending lists by their places
-
-at_low : (low i : ℕ) (xs : List ℕ) → Ascending low xs → i < length xs → low ≤ get_or xs i 0
-unfolding Ascending
-at_low low i [] up h = absurd (omega arith)
-at_low low zero (x ∷ xs) up h = up.0
-at_low low (suc i) (x ∷ xs) up h =
-    let l = at_low (suc x) i xs up.1 (omega arith) in
-    let g : low ≤ x = up.0 in
-    omega arith
-
--- a member of the first places is below the one that stands behind them
-front_below : (low i x : ℕ) (xs : List ℕ) → Ascending low xs → i < length xs → member x (take i xs) ≡ true → x < get_or xs i 0
-unfolding Ascending
-front_below low i x [] up h m = absurd (omega arith)
-front_below low zero x (y ∷ ys) up h m = absurd (not-member-nil x m)
-front_below low (suc i) x (y ∷ ys) up h m =
-    ⊎_elim
-    (λ (q : x ≡ y). omega (arith, at_low (suc y) i ys up.1 (omega arith)))
-    (λ n. front_below (suc y) i x ys up.1 (omega arith) n)
-    (member_cases x y (take i ys) m)
+use Rattle.store_search.specs.Behind.{BehindMember}
 
 in_behind : (x : ℕ) (xs ys : List ℕ) → member x ys ≡ true → member x (xs ++ ys) ≡ true
 in_behind x xs ys m = member-append x xs ys ∙ or_right (member x xs) (member x ys) m
 
+-- ---- a list that ascends, in two parts
+
+-- its end ascends
+ascending_end : (low : ℕ) (xs ys : List ℕ) → Ascending low (xs ++ ys) → (from : ℕ) × Ascending from ys
+unfolding Ascending
+ascending_end low [] ys up = (low, up)
+ascending_end low (x ∷ xs) ys up = ascending_end (suc x) xs ys up.1
+
+-- what stands before a member is below it
+front_below : (low w x : ℕ) (front rest : List ℕ) → Ascending low (front ++ x ∷ rest) → member w front ≡ true → w < x
+unfolding Ascending
+front_below low w x [] rest up m = absurd (not-member-nil w m)
+front_below low w x (y ∷ front) rest up m =
+    ⊎_elim
+    (λ (q : w ≡ y). rw q (member-above x low y (front ++ x ∷ rest) up (in_behind x front (x ∷ rest) (member_head x rest))))
+    (λ n. front_below (suc y) w x front rest up.1 n)
+    (member_cases w y front m)
+
 -- ---- unions
+
+-- behind a list with no member stands all of another
+pub behind-nothing : (have more : List ℕ) → length have ≡ 0 → (low : ℕ) → Ascending low have → union have more ≡ have ++ more
+behind-nothing [] more e low up = union-nil_left more
+behind-nothing (x ∷ xs) more e low up = absurd (omega arith)
 
 -- what is below the first member of the second list goes out first
 union-front :
@@ -50,52 +51,42 @@ union-front (x ∷ xs) zs y ys below =
 
 -- ---- what is passed
 
--- behind a list with no member stands all of another
-pub behind-nothing : (have more : List ℕ) → length have ≡ 0 → (low : ℕ) → Ascending low have → union have more ≡ have ++ drop 0 more
-behind-nothing [] more e low up = union-nil_left more
-behind-nothing (x ∷ xs) more e low up = absurd (omega arith)
-
--- a place of what is left of a list, as a place of the list
-pub place_left : (have : List ℕ) (a r : ℕ) → a ≤ length have → r ≤ length (take (length have - a) (drop a have)) → a + r ≤ length have
-place_left have a r l h = omega (arith, simp (length-take, length-drop) at h)
+-- A first list is passed up to what is `left`, and a second up to what is `to_come`: the members passed of the second are among those of the first.
+pub record Passed (have more left to_come : List ℕ) : Type 0 where
+  pub front : List ℕ
+  pub stands : have ≡ front ++ left
+  pub same : (low : ℕ) → Ascending low have → front ++ union left to_come ≡ union have more
 
 -- nothing is passed yet
-pub passed_none : (have more : List ℕ) → Passed have more 0 0
-passed_none have more low up = refl
+pub passed_none : (have more : List ℕ) → Passed have more have more
+passed_none have more = record { front = []; stands = refl; same = λ low up. refl }
 
-module _ (have more : List ℕ) (a b : ℕ) (passed : Passed have more a b) where
-  -- the next member of the second list stands in the first at a later place
-  pub passed_on :
-      (near : ℕ) → a ≤ near → near < length have → b < length more → get_or have near 0 ≡ get_or more b 0 → Passed have more (near + 1) (b + 1)
-  passed_on near after inside left same low up =
-      let there : a + (near - a) ≡ near = omega arith in
-      let part : List ℕ = take (near - a) (drop a have) in
-      let behind : drop (near - a) (drop a have) ≡ drop near have = drop-drop (near - a) a have ∙ rw there in
-      let split : part ++ drop near have ≡ drop a have = rw (← behind) (take-append-drop (near - a) (drop a have)) in
-      let front : take near have ≡ take a have ++ part = rw there at (take-add a (near - a) have) in
-      let rest : union (drop near have) (drop b more) ≡ get_or have near 0 ∷ union (drop (suc near) have) (drop (suc b) more) =
-      rw (drop-cons have near 0, drop-cons more b 0) (union_equal _ _ _ _ same) in
-      let below : (x : ℕ) → member x part ≡ true → x < get_or more b 0 = λ x m.
-      let l = front_below low near x have up inside (rw front (in_behind x (take a have) part m)) in
-      omega arith in
-      let out : union (drop a have) (drop b more) ≡ part ++ union (drop near have) (drop b more) =
-      ap (λ (xs : List ℕ). union xs (drop b more)) (sym split)
-      ∙ rw (drop-cons more b 0) (union-front part (drop near have) (get_or more b 0) (drop (suc b) more) below) in
-      rw (add-one near, add-one b, take-suc have near 0, front, append_snoc, append_assoc)
-      (rw (← rest, ← out) (passed low up))
+module _ (have more left : List ℕ) where
+  -- the next member of the second list is found in the first
+  pub passed_on : (x : ℕ) (later behind : List ℕ) → BehindMember left x behind → Passed have more left (x ∷ later) → Passed have more behind later
+  passed_on x later behind (part, stands) p = record {
+    front = p.front ++ part ++ x ∷ [];
+    stands = p.stands ∙ rw (stands, append_snoc, append_assoc) refl;
+    same = λ low up.
+        let ascends : (from : ℕ) × Ascending from (part ++ x ∷ behind) = rw stands at (ascending_end low p.front left (rw p.stands at up)) in
+        let below : (w : ℕ) → member w part ≡ true → w < x = λ w m. front_below ascends.0 w x part behind ascends.1 m in
+        let out : union left (x ∷ later) ≡ part ++ x ∷ union behind later =
+        rw stands (union-front part (x ∷ behind) x later below ∙ rw (union_equal x x behind later refl) refl) in
+        rw (append_snoc, append_assoc, ← out) (p.same low up);
+  }
 
   -- the second list is passed whole
-  pub passed_all : b ≡ length more → (low : ℕ) → Ascending low have → union have more ≡ have ++ drop b more
-  passed_all e low up =
-      sym (passed low up) ∙ rw (e, drop-length more, append-nil, union-nil_right, take-append-drop)
+  pub passed_all : Passed have more left [] → (low : ℕ) → Ascending low have → union have more ≡ have
+  passed_all p low up = sym (p.same low up) ∙ rw union-nil_right (sym p.stands)
 
   -- the next member of the second list is above the first list's last
   pub passed_behind :
-      0 < length have → b < length more → get_or have (length have - 1) 0 < get_or more b 0 → (low : ℕ) → Ascending low have → union have more ≡ have ++ drop b more
-  passed_behind some left above low up =
-      let below : (x : ℕ) → member x (drop a have) ≡ true → x < get_or more b 0 = λ x m.
-      let l = member_last low x (length have - 1) have up (omega arith) (drop_in x a have m) in
+      (x : ℕ) (later : List ℕ) → 0 < length have → get_or have (length have - 1) 0 < x → Passed have more left (x ∷ later)
+      → (low : ℕ) → Ascending low have → union have more ≡ have ++ x ∷ later
+  passed_behind x later some above p low up =
+      let below : (w : ℕ) → member w left ≡ true → w < x = λ w m.
+      let l = member_last low w (length have - 1) have up (omega arith) (rw p.stands (in_behind w p.front left m)) in
       omega arith in
-      let out : union (drop a have) (drop b more) ≡ drop a have ++ drop b more =
-      rw (drop-cons more b 0) (rw (append-nil, union-nil_left) at (union-front (drop a have) [] (get_or more b 0) (drop (suc b) more) below)) in
-      sym (passed low up) ∙ rw (out, ← append_assoc, take-append-drop)
+      let out : union left (x ∷ later) ≡ left ++ x ∷ later =
+      rw append-nil at (union-front left [] x later below) ∙ rw union-nil_left refl in
+      sym (p.same low up) ∙ rw (out, ← append_assoc, ← p.stands) refl

@@ -1,14 +1,12 @@
 -- How a second list lies to a first.
-use Rattle.std.specs.Prelude.{List, ◌++◌, ◌≡◌, ℕ, ◌≤◌, length, take, drop}
+use Rattle.std.specs.Prelude.{List, ◌∷◌, ◌++◌, ◌≡◌, ℕ, ◌≤◌, length, drop, Option, Some, None}
 use Rattle.lists.specs.Sets.{union, Ascending}
-use Rattle.store_search.specs.declared.searching.Behind.{Behind}
-use Rattle.store_search.specs.declared.searching.Behind.TheVariants.{From, Between}
 
--- So many members of a first list and of a second are passed: those of the second are among those of the first.
-abbrev pub Passed : List ℕ → List ℕ → ℕ → ℕ → Type 0
-Passed have more a b = (low : ℕ) → Ascending low have → take a have ++ union (drop a have) (drop b more) ≡ union have more
+-- in a list a member stands somewhere, and behind it the rest
+abbrev pub BehindMember : List ℕ → ℕ → List ℕ → Type 0
+BehindMember list x rest = (front : List ℕ) × (list ≡ front ++ x ∷ rest)
 
 -- from a place on the second list stands behind the first
-abbrev pub BehindAs : Behind → List ℕ → List ℕ → Type 0
-BehindAs (From at) have more = (at ≤ length more) × ((low : ℕ) → Ascending low have → union have more ≡ have ++ drop at more)
-BehindAs Between have more = Unit
+abbrev pub BehindAs : Option ℕ → List ℕ → List ℕ → Type 0
+BehindAs (Some at) have more = (at ≤ length more) × ((low : ℕ) → Ascending low have → union have more ≡ have ++ drop at more)
+BehindAs None have more = Unit

@@ -5,6 +5,8 @@ ghost use Rattle.store_search.specs.Places.{FirstFrom};
 
 // The first place of an ascending list whose member is not below x, the list's length where there is none: found by halves. In a list that does
 // not ascend, some place up to its length.
+// Halved by hand: with the slices' `partition_point`, which chooses without a branch, the searches of planning took a third to a half longer, since
+// what they look up stands near the front.
 pub fn place_of(list: &[usize], x: usize) -> usize
     ensures { (result ≤ length list.now) × (Ascending 0 list.now → FirstFrom list.now x result) }
 {

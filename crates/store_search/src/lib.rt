@@ -5,4 +5,4 @@ mod finding;
 mod searching;
 
 pub use finding::place_of;
-pub use searching::{Behind, search_behind};
+pub use searching::search_behind;

@@ -6,4 +6,4 @@ use Rattle.run_clear.proofs.clear_floats.Goals as goal
 
 pub returns : goal.returns
 unfolding work_store plus_zero of_bits
-returns c = c.fill_floats.ensures
+returns c = c.fill.ensures.after (λ y e. e)

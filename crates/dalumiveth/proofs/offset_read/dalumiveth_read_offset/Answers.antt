@@ -9,15 +9,15 @@ unfolding read_answer_of
 returns-in-Whole c =
     let w = c.in-Whole.whole in
     read_told _ _ _ _ _ _ c.if-value-ne1.false w _ (rw c.in-Whole.is at c.read.ensures)
-    c.fill_floats-in-Whole.ensures (told_back w (record { sfits = c.in-Whole.known_told-1-own.given.0.1 }) _ _ _
+    (c.fill-in-Whole.ensures.after (λ y e. e)) (told_back w (record { sfits = c.in-Whole.known_told-1-own.given.0.1 }) _ _ _
     (c.tell_offset.ensures.returned, c.tell_offset.ensures.numbers))
 
 pub returns-in-OtherText : goal.returns-in-OtherText
 unfolding read_answer_of
 returns-in-OtherText c =
     read-refused _ _ _ _ _ _ c.if-value-ne1.false (rw c.in-OtherText.is at c.read.ensures)
-    c.fill_floats-in-OtherText.ensures (c.put_refusal-in-OtherText.ensures.returned, c.put_refusal-in-OtherText.ensures.numbers)
+    (c.fill-in-OtherText.ensures.after (λ y e. e)) (c.put_refusal-in-OtherText.ensures.returned, c.put_refusal-in-OtherText.ensures.numbers)
 
 -- behind the others, so that of a wrong test of the length the log first shows what it lets pass
 pub returns-then-value-ne1 : goal.returns-then-value-ne1
-returns-then-value-ne1 c = read-without_place _ _ _ _ _ _ c.if-value-ne1.true c.fill_floats.ensures (c.put_refusal.ensures.returned, c.put_refusal.ensures.numbers)
+returns-then-value-ne1 c = read-without_place _ _ _ _ _ _ c.if-value-ne1.true (c.fill.ensures.after (λ y e. e)) (c.put_refusal.ensures.returned, c.put_refusal.ensures.numbers)

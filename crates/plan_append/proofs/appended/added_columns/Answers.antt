@@ -69,7 +69,7 @@ slice_bounds-search_behind-end c = (led_row c.requires.joins_last).read.inside
 
 pub overflow_add-result : goal.overflow_add-result
 overflow_add-result c =
-    let told = rw c.in-From.is at c.search_behind.ensures in
+    let told = rw c.in-Some.is at c.search_behind.ensures in
     next_fits (led_row c.requires.joins_last) c.well_formed.1.1.1.1.0.1 told.0
 
 pub returns : goal.returns
@@ -78,7 +78,7 @@ returns c =
     let j = c.requires.joins_last in
     let at = c.requires.side_at in
     let last = rw c.in-Members.is at c.last_list.ensures in
-    let told = rw c.in-From.is at c.search_behind.ensures in
+    let told = rw c.in-Some.is at c.search_behind.ensures in
     let row = led_row j in
     added_as (Behind _ _) _ _ j at last.0 last.1 list_at.ensures refl
     (led_joined _ _ _ _ _ _ (last_begins j at last.0 list_at.ensures) row.led_by (part_is list_at.result.now 1) row.rest told)

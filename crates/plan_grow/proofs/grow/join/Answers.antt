@@ -17,15 +17,15 @@ slice_bounds-search_behind-end c = still_inside c.requires.2.fits c.requires.2.s
 
 pub offset_bounds-comes-at : goal.offset_bounds-comes-at
 offset_bounds-comes-at c =
-    let told = rw c.in-From.is at c.search_behind.ensures in
+    let told = rw c.in-Some.is at c.search_behind.ensures in
     let inside = told.0 in
     omega arith
 
 pub slice_bounds-append-count : goal.slice_bounds-append-count
-slice_bounds-append-count c = let told = rw c.in-From.is at c.search_behind.ensures in told.0
+slice_bounds-append-count c = let told = rw c.in-Some.is at c.search_behind.ensures in told.0
 
 pub slice_bounds-append-start : goal.slice_bounds-append-start
-slice_bounds-append-start c = let told = rw c.in-From.is at c.search_behind.ensures in told.0
+slice_bounds-append-start c = let told = rw c.in-Some.is at c.search_behind.ensures in told.0
 
 pub slice_bounds-append-end : goal.slice_bounds-append-end
 slice_bounds-append-end c = le_refl _
@@ -33,13 +33,13 @@ slice_bounds-append-end c = le_refl _
 pub append-requires : goal.append-requires
 append-requires c =
     behind-room c.requires.2 c.requires.3 c.requires.4 c.after_first-comes.ensures _
-    (rw c.in-From.is at c.search_behind.ensures)
+    (rw c.in-Some.is at c.search_behind.ensures)
 
-pub returns-in-From : goal.returns-in-From
-returns-in-From c =
+pub returns-in-Some : goal.returns-in-Some
+returns-in-Some c =
     let a = c.append in
     behind-grown c.requires.2 c.requires.3 c.requires.4 c.after_first-comes.ensures _
-    (rw c.in-From.is at c.search_behind.ensures)
+    (rw c.in-Some.is at c.search_behind.ensures)
     a.auto.out a.ensures
 
 pub merge_in-requires : goal.merge_in-requires

@@ -1,11 +1,7 @@
 -- `search_behind` meets its contract: what is passed of the second list is among what is passed of the first.
-use Prim.Native.Nat.{◌≤◌, ◌-◌}
-use lib.ListN.{length}
-use Rattle.store_search.specs.Behind.{Passed}
+use lib.ListN.{drop}
+use Rattle.store_search.proofs.Passing.{Passed}
 use Rattle.store_search.proofs.searching.search_behind.Given as goal
 
-abbrev pub invariant-loop-b : goal.invariant-loop-b
-invariant-loop-b l = (l.a ≤ length l.have) × (l.b ≤ length l.more) × Passed l.have l.more l.a l.b
-
-abbrev pub decreases-loop-b : goal.decreases-loop-b
-decreases-loop-b l = length l.more - l.b
+abbrev pub invariant-loop-at : goal.invariant-loop-at
+invariant-loop-at l = Passed l.have l.more l.left (drop l.at l.more)

@@ -1,2 +1,0 @@
--- Laws of loops that fill a store with one value.
-pub mod Filling

@@ -1,0 +1,32 @@
+-- `write_next` meets its contract: what is left of the first list is further on in the union, and stands in the store.
+use mathlib.Core.Path.{◌≡◌}
+use Prim.Native.Nat.{◌≤◌, ◌<◌}
+use native.Mathlib.Nat.{add-zero}
+use native.Mathlib.Omega.{arith}
+use lib.ListN.{length, get_or}
+use borrow.Author.Rules.{rules}
+use Rattle.lists.proofs.Members.{by_test}
+use Rattle.store_lists.proofs.Merging.{merge_place, merge_first, merge_common, merge_second}
+use Rattle.store_lists.proofs.unions.write_next.Goals as goal
+
+pub loop-read-init : goal.loop-read-init
+loop-read-init c = (merge_place _ _ _ _ _ _ c.requires.2, λ whole later m. m)
+
+pub loop-read-preserved : goal.loop-read-preserved
+loop-read-preserved c =
+    let i = c.loop-read.invariant in (
+      merge_place _ _ _ _ _ _ (merge_first _ _ _ _ _ _ (i.1 _ _ c.requires.2) c.loop-read-test.true c.if-store-read.true),
+      λ whole later m. merge_first _ _ _ _ whole later (i.1 whole later m) c.loop-read-test.true c.if-store-read.true,
+    )
+
+pub returns : goal.returns
+returns c = λ whole later m.
+    let at = c.loop-read.invariant.1 whole later m in
+    let store = c.loop-read.store in
+    let read = c.loop-read.read in
+    let passed : read < length store → c.args.y ≤ get_or store read 0 = search rules in
+    by_test c.if-read-store.common
+    (λ e. rw (c.from.ensures, e) (merge_common _ _ _ _ whole later at (search rules) (search rules)))
+    (λ e.
+    let other : read < length store → get_or store read 0 ≡ c.args.y → ⊥ = search rules in
+    rw (c.from.ensures, e, add-zero) (merge_second _ _ _ _ whole later at (λ l. omega (arith, passed l, other l))))
