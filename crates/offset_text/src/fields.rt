@@ -1,36 +1,33 @@
 // The numbers of a text's fields.
-ghost use Rattle.std.specs.Prelude.{◌≡◌, ◌+◌, ◌-◌, ◌≤◌, length};
+ghost use Rattle.std.specs.Prelude.{◌≡◌, ◌+◌, ◌≤◌, ◌<◌, length};
 ghost use Rattle.foundation.specs.OffsetCall.{offset_bytes};
-ghost use Rattle.foundation.specs.OffsetReading.{two_at, three_at, in_range, size_read};
+ghost use Rattle.foundation.specs.OffsetReading.{digit_at, two_at, three_at, in_range, size_read};
 
-// The number of a digit's byte; of a byte before the digits it is 0.
-fn digit_number(byte: u8) -> u64
-    ensures { (result ≡ byte - 48) × (result ≤ 207) }
+// The number of a digit; of a byte before the digits it is 0.
+fn digit_at(text: &[u8], place: usize) -> u64
+    requires { place < length text.now }
+    ensures value { result ≡ digit_at text.now place }
+    ensures bound { result ≤ 207 }
 {
-    if byte < b'0' {
-        return 0;
-    }
-    (byte - b'0') as u64
+    u64::from(text[place].saturating_sub(b'0'))
 }
 
 // The number of two digits.
 fn two_at(text: &[u8], place: usize) -> u64
-    requires { place + 2 ≤ length text.now }
-    ensures { (result ≡ two_at text.now place) × (result ≤ 2277) }
+    requires { place + 1 < length text.now }
+    ensures value { result ≡ two_at text.now place }
+    ensures bound { result ≤ 2277 }
 {
-    let tens = digit_number(text[place]);
-    let ones = digit_number(text[place + 1]);
-    10 * tens + ones
+    10 * digit_at(text, place) + digit_at(text, place + 1)
 }
 
-// The number of three digits.
+// The number of three digits: it goes by that of the last two.
 fn three_at(text: &[u8], place: usize) -> u64
-    requires { place + 3 ≤ length text.now }
-    ensures { (result ≡ three_at text.now place) × (result ≤ 22977) }
+    requires { place + 2 < length text.now }
+    ensures value { result ≡ three_at text.now place }
+    ensures bound { result ≤ 22977 }
 {
-    let hundreds = digit_number(text[place]);
-    let rest = two_at(text, place + 1);
-    100 * hundreds + rest
+    100 * digit_at(text, place) + two_at(text, place + 1)
 }
 
 // Whether degrees, minutes and seconds are in range.
@@ -38,13 +35,10 @@ pub fn in_range(text: &[u8]) -> bool
     requires { length text.now ≡ offset_bytes }
     ensures { result ≡ in_range text.now }
 {
-    if 360 <= three_at(text, 1) {
-        return false;
-    }
-    if 60 <= two_at(text, 5) {
-        return false;
-    }
-    two_at(text, 8) < 60
+    let degrees = three_at(text, 1);
+    let minutes = two_at(text, 5);
+    let seconds = two_at(text, 8);
+    (degrees < 360) & (minutes < 60) & (seconds < 60)
 }
 
 // The milliarcseconds of a text, without their sign.

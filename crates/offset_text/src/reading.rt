@@ -9,14 +9,8 @@ use crate::form::has_form;
 pub fn readable(text: &[u8]) -> bool
     ensures { result ≡ Reading.readable text.now }
 {
-    if !has_form(b"+000 00 00.000", text) {
+    if !has_form(b"+000 00 00.000", text) || !in_range(text) {
         return false;
     }
-    if !in_range(text) {
-        return false;
-    }
-    if text[0] == b'-' {
-        return size_read(text) != 0;
-    }
-    true
+    text[0] != b'-' || size_read(text) != 0
 }

@@ -3,11 +3,11 @@ use mathlib.Core.Bool.{Bool, true}
 use mathlib.Core.List.{List}
 use mathlib.Core.Path.{◌≡◌, sym, ◌∙◌}
 use Prim.Native.Nat.{ℕ, ◌≤◌}
+use native.Mathlib.Omega.{arith}
 use Rattle.foundation.specs.Offset.{largest_offset}
 use Rattle.foundation.specs.OffsetReading.{minus_read, readable, size_read}
 use Rattle.foundation.proofs.OffsetTexts.{readable-small}
 use Rattle.answers.specs.Offsets.{read_answer_of}
-use Rattle.offset_text.proofs.Ranges.{inside}
 use Rattle.offsets.proofs.Words.{signed_back, signed_size}
 use Rattle.offsets.proofs.Answers.{unread, sized, read-granted}
 use Rattle.offsets.proofs.read.Goals as goal
@@ -27,7 +27,7 @@ unfolding read_answer_of
 returns-then-not-readable c = unread _ (sym c.readable.ensures ∙ c.if-not-readable.true)
 
 pub bounds-text-0 : goal.bounds-text-0
-bounds-text-0 c = inside _ (sized _ (found _ c.readable.ensures c.if-not-readable.false))
+bounds-text-0 c = omega (arith, sized _ (found _ c.readable.ensures c.if-not-readable.false))
 
 pub size_read-requires : goal.size_read-requires
 size_read-requires c = sized _ (found _ c.readable.ensures c.if-not-readable.false)

@@ -1,7 +1,7 @@
--- `two_at` meets its contract.
-use borrow.Author.Rules.{rules}
-use Rattle.offset_text.proofs.Ranges.{two-found}
+-- `two_at` meets its contract: its digits are found.
+use Rattle.foundation.specs.OffsetReading.{two_at}
 use Rattle.offset_text.proofs.fields.two_at.Goals as goal
 
-pub returns : goal.returns
-returns c = (two-found _ _ _ _ c.digit_number-tens.ensures.0 c.digit_number-ones.ensures.0, search rules)
+pub returns-clause-value : goal.returns-clause-value
+unfolding two_at
+returns-clause-value c = cc

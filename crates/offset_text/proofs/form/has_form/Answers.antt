@@ -1,23 +1,13 @@
--- `has_form` meets its contract: before turn i what is left of form and text decides.
-use mathlib.Core.Path.{sym, ◌∙◌}
-use borrow.Author.Rules.{rules}
-use Rattle.offset_text.proofs.Loop.{another_length, not_standing, standing, at_the_end}
+-- `has_form` meets its contract: as many bytes, and each pair stands.
+use Rattle.std.proofs.Common.{rules, tests, ne_eqb}
+use Rattle.std.proofs.lemmas.Iterator.{cases_from_all, YieldsList-from_zip, YieldsList-from_slice}
+use Rattle.offset_text.proofs.Places.{Stands, Differs, another_length, of_pairs}
 use Rattle.offset_text.proofs.form.has_form.Goals as goal
 
-pub returns-then-text-kinds : goal.returns-then-text-kinds
-returns-then-text-kinds c = another_length _ _ c.if-text-kinds.true
+pub returns-then-kinds-text : goal.returns-then-kinds-text
+returns-then-kinds-text c =
+    of_pairs c.args.kinds.now c.args.text.now _ c.if-kinds-text.true
+    (cases_from_all c.all.new.self _ _ Stands Differs c.all.ensures.ran (YieldsList-from_zip (YieldsList-from_slice c.args.kinds.now cc) (YieldsList-from_slice c.args.text.now cc)) (λ x q k. search (rules, tests)) (λ x q k. search (rules, tests)))
 
-pub returns-then-not-may_stand : goal.returns-then-not-may_stand
-returns-then-not-may_stand c =
-    let l = c.loop-i in
-    not_standing _ _ l.invariant.1 l.i l.invariant.2 (search rules) (sym c.may_stand.ensures ∙ c.if-not-may_stand.true)
-
-pub loop-i-preserved : goal.loop-i-preserved
-loop-i-preserved c =
-    let l = c.loop-i in
-    (search rules, search rules, standing _ _ l.invariant.1 l.i l.invariant.2 (search rules) (sym c.may_stand.ensures ∙ c.if-not-may_stand.false))
-
-pub returns : goal.returns
-returns c =
-    let l = c.loop-i in
-    at_the_end _ _ l.invariant.1 l.i l.invariant.2 (search rules)
+pub returns-else-kinds-text : goal.returns-else-kinds-text
+returns-else-kinds-text c = rw (ne_eqb _ _ c.if-kinds-text.false) (another_length _ _ c.if-kinds-text.false)

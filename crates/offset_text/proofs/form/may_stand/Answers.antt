@@ -1,16 +1,21 @@
 -- `may_stand` meets its contract, kind by kind.
-use mathlib.Core.Path.{◌∙◌}
-use Rattle.offset_text.proofs.Bytes.{plus_stands, minus_stands, digit_stands, mark_stands}
+use Rattle.std.proofs.Common.{arith}
+use Rattle.std.proofs.lemmas.Grind.{common_steps}
+use Rattle.foundation.specs.OffsetReading.{is_digit, may_stand}
 use Rattle.offset_text.proofs.form.may_stand.Goals as goal
 
 pub returns-then-byte-eq43 : goal.returns-then-byte-eq43
-returns-then-byte-eq43 c = plus_stands _ _ c.if-kind-eq43.true c.if-byte-eq43.true
+unfolding may_stand
+returns-then-byte-eq43 c = grind (arith, common_steps)
 
-pub returns-then-kind-eq43 : goal.returns-then-kind-eq43
-returns-then-kind-eq43 c = minus_stands _ _ c.if-kind-eq43.true c.if-byte-eq43.false
+pub returns-else-byte-eq43 : goal.returns-else-byte-eq43
+unfolding may_stand
+returns-else-byte-eq43 c = grind (arith, common_steps)
 
-pub returns-then-kind-eq48 : goal.returns-then-kind-eq48
-returns-then-kind-eq48 c = c.is_digit.ensures ∙ digit_stands _ _ c.if-kind-eq43.false c.if-kind-eq48.true
+pub returns-in-48 : goal.returns-in-48
+unfolding may_stand is_digit
+returns-in-48 c = grind (arith, common_steps)
 
-pub returns : goal.returns
-returns c = mark_stands _ _ c.if-kind-eq43.false c.if-kind-eq48.false
+pub returns-in_default : goal.returns-in_default
+unfolding may_stand
+returns-in_default c = grind (arith, common_steps)

@@ -1,43 +1,39 @@
--- `readable` meets its contract, test by test.
-use mathlib.Core.Bool.{Bool, true}
-use mathlib.Core.List.{List}
-use mathlib.Core.Path.{◌≡◌, sym, ◌∙◌}
-use Prim.Native.Nat.{ℕ}
+-- `readable` meets its contract, test by test. The form in the code is the form (`unfolding form ascii`).
+use Rattle.std.proofs.Common.{◌≡◌, ℕ, Bool, true, List, length, sym, ◌∙◌, arith, ne_eqb, eq-eqb}
 use Rattle.foundation.specs.Text.{ascii}
-use Rattle.foundation.specs.OffsetReading.{form, has_form}
+use Rattle.foundation.specs.OffsetReading.{form, has_form, minus_read, readable}
 use Rattle.foundation.proofs.OffsetTexts.{form-sized}
-use Rattle.offset_text.proofs.Ranges.{inside, without-form, out_of_range, by_size, with_plus}
 use Rattle.offset_text.proofs.reading.readable.Goals as goal
+use Rattle.offset_text.proofs.reading.readable.Goals.{then-not-has_form-via-then-not-has_form, then-not-has_form-via-else-not-has_form+then-not-in_range}
 
--- behind the test of the form; the form in the code is the form (`unfolding form ascii`)
-formed : (text : List ℕ) {test : Bool} → test ≡ has_form form text → test ≡ true → has_form form text ≡ true
-formed text asked passed = sym asked ∙ passed
-
-pub returns-then-not-has_form : goal.returns-then-not-has_form
-unfolding form ascii
-returns-then-not-has_form c = without-form _ (sym c.has_form.ensures ∙ c.if-not-has_form.true)
+-- behind the test of the form
+sized : (text : List ℕ) {test : Bool} → test ≡ has_form form text → test ≡ true → length text ≡ 14
+sized text ensured passed = form-sized text (sym ensured ∙ passed)
 
 pub in_range-requires : goal.in_range-requires
 unfolding form ascii
-in_range-requires c = form-sized _ (formed _ c.has_form.ensures c.if-not-has_form.false)
+in_range-requires c = sized _ c.has_form.ensures c.if-not-has_form.false
 
-pub returns-then-not-in_range : goal.returns-then-not-in_range
-unfolding form ascii
-returns-then-not-in_range c = out_of_range _ (formed _ c.has_form.ensures c.if-not-has_form.false) (sym c.in_range.ensures ∙ c.if-not-in_range.true)
+pub returns-then-not-has_form : goal.returns-then-not-has_form
+unfolding readable form ascii
+returns-then-not-has_form c =
+    elim c.then-not-has_form.branch [
+      | then-not-has_form-via-then-not-has_form w ↦ rw (sym c.has_form.ensures ∙ w.if-not-has_form.true)
+      | then-not-has_form-via-else-not-has_form+then-not-in_range w ↦ rw (sym c.has_form.ensures ∙ w.if-not-has_form.false, sym w.in_range.ensures ∙ w.if-not-in_range.true)
+    ]
 
 pub bounds-text-0 : goal.bounds-text-0
 unfolding form ascii
-bounds-text-0 c = inside _ (form-sized _ (formed _ c.has_form.ensures c.if-not-has_form.false))
+bounds-text-0 c = omega (arith, sized _ c.has_form.ensures c.if-not-has_form.false)
 
 pub size_read-requires : goal.size_read-requires
 unfolding form ascii
-size_read-requires c = form-sized _ (formed _ c.has_form.ensures c.if-not-has_form.false)
+size_read-requires c = sized _ c.has_form.ensures c.if-not-has_form.false
 
-pub returns-then-text-eq45 : goal.returns-then-text-eq45
-unfolding form ascii
-returns-then-text-eq45 c =
-    by_size _ (formed _ c.has_form.ensures c.if-not-has_form.false) (sym c.in_range.ensures ∙ c.if-not-in_range.false) _ c.if-text-eq45.true c.size_read.ensures
+pub returns-then-text-ne45 : goal.returns-then-text-ne45
+unfolding readable minus_read form ascii
+returns-then-text-ne45 c = rw (← c.has_form.ensures, ← c.in_range.ensures, c.if-not-has_form.false, c.if-not-in_range.false, ne_eqb _ 45 c.if-text-ne45.true)
 
-pub returns : goal.returns
-unfolding form ascii
-returns c = with_plus _ (formed _ c.has_form.ensures c.if-not-has_form.false) (sym c.in_range.ensures ∙ c.if-not-in_range.false) c.if-text-eq45.false
+pub returns-else-text-ne45 : goal.returns-else-text-ne45
+unfolding readable minus_read form ascii
+returns-else-text-ne45 c = rw (← c.has_form.ensures, ← c.in_range.ensures, c.if-not-has_form.false, c.if-not-in_range.false, eq-eqb _ 45 c.if-text-ne45.false, c.size_read.ensures)
