@@ -6,19 +6,20 @@
 //
 // A request to read is the byte "R", a length and so many bytes of a text. A request to write is the byte "W", the store's length, the byte
 // that each place of the store holds before the call, and the eight bytes of an f64, low byte first.
-mod input;
 mod request;
 mod show;
 
 use std::io;
+use streams::finish;
 
 // A proved loop has to end, and nothing says that the input does: the requests are counted up to a number that no input reaches.
 fn main(rt: HostRuntime) -> io::Result<()> {
     let mut reader = rt.stdin();
     let mut writer = rt.stdout();
-    let mut number = 1usize;
-    while number < 1_000_000 && request::serve(&mut reader, &mut writer, number)? {
-        number += 1;
-    }
-    Ok(())
+    let served = (1..1_000_000usize).try_for_each(|number| request::serve(
+        &mut reader,
+        &mut writer,
+        number,
+    ));
+    finish(&mut writer, served, b"bad request\n")
 }

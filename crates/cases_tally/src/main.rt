@@ -5,26 +5,21 @@
 //
 // A request is a byte and two numbers of eight bytes, low byte first. "Z" asks for a record made with zeros, whatever the numbers are; "A" asks for a call with the
 // record: the first number is the member's, the second one the updates.
-mod input;
-mod lending;
 mod request;
 mod show;
 
 use std::io;
+use streams::finish;
 
 // A proved loop has to end, and nothing says that the input does: the requests are counted up to a number that no input reaches.
 fn main(rt: HostRuntime) -> io::Result<()> {
     let mut reader = rt.stdin();
     let mut writer = rt.stdout();
-    let mut held = tally::empty();
-    let mut number = 0usize;
-    while number < 1_000_000 {
-        let served = request::serve(&mut reader, &mut writer, held)?;
-        if !served.more {
-            return Ok(());
-        }
-        held = served.record;
-        number += 1;
-    }
-    Ok(())
+    let mut record = tally::empty();
+    let served = (0..1_000_000usize).try_for_each(|_| request::serve(
+        &mut reader,
+        &mut writer,
+        &mut record,
+    ));
+    finish(&mut writer, served, b"bad request\n")
 }

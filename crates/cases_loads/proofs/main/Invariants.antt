@@ -1,6 +1,0 @@
--- `main` is safe and ends: the measure is the number of turns that are left.
-use Rattle.std.proofs.Common.{}
-use Rattle.cases_loads.proofs.main.Given as goal
-
-abbrev pub decreases-loop-turns : goal.decreases-loop-turns
-decreases-loop-turns l = l.turns
