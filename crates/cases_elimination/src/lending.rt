@@ -79,6 +79,12 @@ pub struct RunWork<'a> {
 
 // The call about the lent plan.
 pub fn verify(most: usize, pattern: Pattern, plan: Plan, work: &mut Work) -> VerifyAnswer {
+    let row_heads = &mut *work.row_heads;
+    let row_links = &mut *work.row_links;
+    let set_heads = &mut *work.set_heads;
+    let set_links = &mut *work.set_links;
+    let list = &mut *work.list;
+    let spare = &mut *work.spare;
     planning::verify(
         most,
         pattern.n,
@@ -92,12 +98,12 @@ pub fn verify(most: usize, pattern: Pattern, plan: Plan, work: &mut Work) -> Ver
         plan.sides.upper.subs,
         plan.sides.upper.starts,
         plan.sides.upper.slots,
-        work.row_heads,
-        work.row_links,
-        work.set_heads,
-        work.set_links,
-        work.list,
-        work.spare,
+        row_heads,
+        row_links,
+        set_heads,
+        set_links,
+        list,
+        spare,
     )
 }
 
@@ -114,6 +120,20 @@ pub fn run(
         Rows::Largest => (PivotChoice::Largest, &[]),
         Rows::Listed(rows) => (PivotChoice::Listed, rows),
     };
+    let lower = &mut *results.lower;
+    let upper = &mut *results.upper;
+    let diagonal = &mut *results.diagonal;
+    let solution = &mut *results.solution;
+    let pivots = &mut *results.pivots;
+    let planning = &mut work.planning;
+    let row_heads = &mut *planning.row_heads;
+    let row_links = &mut *planning.row_links;
+    let set_heads = &mut *planning.set_heads;
+    let set_links = &mut *planning.set_links;
+    let list = &mut *planning.list;
+    let spare = &mut *planning.spare;
+    let copy = &mut *work.copy;
+    let dense = &mut *work.dense;
     elimination::run(
         most,
         pattern.n,
@@ -132,18 +152,18 @@ pub fn run(
         choice,
         rows,
         request.extent,
-        results.lower,
-        results.upper,
-        results.diagonal,
-        results.solution,
-        results.pivots,
-        work.planning.row_heads,
-        work.planning.row_links,
-        work.planning.set_heads,
-        work.planning.set_links,
-        work.planning.list,
-        work.planning.spare,
-        work.copy,
-        work.dense,
+        lower,
+        upper,
+        diagonal,
+        solution,
+        pivots,
+        row_heads,
+        row_links,
+        set_heads,
+        set_links,
+        list,
+        spare,
+        copy,
+        dense,
     )
 }

@@ -38,23 +38,37 @@ pub struct Work<'a> {
 
 // The call.
 pub fn plan(most: usize, pattern: Pattern, sides: &mut SidesMut, work: &mut Work) -> PlanAnswer {
+    let lower = &mut sides.lower;
+    let upper = &mut sides.upper;
+    let l_subs = &mut *lower.subs;
+    let l_starts = &mut *lower.starts;
+    let l_slots = &mut *lower.slots;
+    let u_subs = &mut *upper.subs;
+    let u_starts = &mut *upper.starts;
+    let u_slots = &mut *upper.slots;
+    let row_heads = &mut *work.row_heads;
+    let row_links = &mut *work.row_links;
+    let set_heads = &mut *work.set_heads;
+    let set_links = &mut *work.set_links;
+    let list = &mut *work.list;
+    let spare = &mut *work.spare;
     planning::plan(
         most,
         pattern.n,
         pattern.height,
         pattern.starts,
         pattern.columns,
-        sides.lower.subs,
-        sides.lower.starts,
-        sides.lower.slots,
-        sides.upper.subs,
-        sides.upper.starts,
-        sides.upper.slots,
-        work.row_heads,
-        work.row_links,
-        work.set_heads,
-        work.set_links,
-        work.list,
-        work.spare,
+        l_subs,
+        l_starts,
+        l_slots,
+        u_subs,
+        u_starts,
+        u_slots,
+        row_heads,
+        row_links,
+        set_heads,
+        set_links,
+        list,
+        spare,
     )
 }
