@@ -4,21 +4,22 @@
 // every place of every result store (a sum over the places of a long one), and whether the work stores are zero. tools/cases_elimination.py writes
 // the requests, and what a dense program of another author answers to them, into the files stdin and stdout.
 //
-// A request: 38 head words of four bytes (`head` lists them), the lists in two bytes a number, values and right side as the eight bytes of
+// A request: 38 head words of four bytes (`request` lists them), the lists in two bytes a number, values and right side as the eight bytes of
 // an f64; low byte first.
-mod head;
-mod lending;
 mod request;
 mod runs;
 mod show;
+mod words;
 
 use std::io;
-use streams::finish;
 
-// A proved loop has to end, and nothing says that the input does: the requests are counted up to a number that no input reaches.
+// A proved loop has to end, and nothing says that the input does: the turns are counted down from a number that no input uses up.
 fn main(rt: HostRuntime) -> io::Result<()> {
     let mut reader = rt.stdin();
     let mut writer = rt.stdout();
-    let served = (0..1_000_000usize).try_for_each(|_| request::serve(&mut reader, &mut writer));
-    finish(&mut writer, served, b"bad request\n")
+    let mut turns = 1_000_000usize;
+    while turns > 0 && request::serve(&mut reader, &mut writer)? {
+        turns -= 1;
+    }
+    Ok(())
 }

@@ -1,51 +1,71 @@
 // Lines on standard output.
-use crate::lending::{SideMut, SidesMut, Work};
 use answers::{PlanAnswer, Refusal};
 use numbers::{count_numbers, number_and_step};
 use std::io;
 use std::io::Write;
-use streams::{Decimal, all_zero, write_places};
+use streams::write_decimal;
+
+// A blank and a number. The number is cast here, and not in the loop of `store`, so that the cast is no part of that loop's proof.
+fn number<W: Write>(writer: &mut W, value: usize) -> io::Result<()> {
+    writer.write_all(b" ")?;
+    write_decimal(writer, value as u64)
+}
+
+// The end of a line.
+fn end<W: Write>(writer: &mut W) -> io::Result<()> {
+    writer.write_all(b"\n")
+}
+
+// The line that ends the program early.
+pub fn bad_request<W: Write>(writer: &mut W) -> io::Result<()> {
+    writer.write_all(b"bad request\n")
+}
 
 // A store's name and every place of it.
-fn store<W: Write>(writer: &mut W, name: &str, places: &[usize]) -> io::Result<()> {
-    write!(writer, "{name}")?;
-    write_places(writer, places, Decimal)?;
-    writeln!(writer)
+pub fn store<W: Write>(writer: &mut W, name: &[u8], places: &[usize]) -> io::Result<()> {
+    writer.write_all(name)?;
+    let mut i = 0;
+    while i < places.len() {
+        number(writer, places[i])?;
+        i += 1;
+    }
+    end(writer)
 }
 
 // A refusal by its number, and its step.
 fn refused<W: Write>(writer: &mut W, refusal: Refusal) -> io::Result<()> {
     let refused = number_and_step(refusal);
-    writeln!(writer, "refused {} {}", refused.number, refused.step)
+    writer.write_all(b"refused")?;
+    number(writer, refused.number)?;
+    number(writer, refused.step)?;
+    end(writer)
 }
 
 // An answer; the counts stand in the order of the job program's line.
 pub fn answer<W: Write>(writer: &mut W, answer: PlanAnswer) -> io::Result<()> {
     match answer {
-        PlanAnswer::Planned(counts) => store(writer, "plan", &count_numbers(counts)),
+        PlanAnswer::Planned(counts) => store(writer, b"plan", &count_numbers(counts)),
         PlanAnswer::Refused(refusal) => refused(writer, refusal),
     }
 }
 
-// Both sides' stores.
-pub fn sides<W: Write>(writer: &mut W, sides: &SidesMut) -> io::Result<()> {
-    store(writer, "l_subs", sides.lower.subs)?;
-    store(writer, "l_starts", sides.lower.starts)?;
-    store(writer, "l_slots", sides.lower.slots)?;
-    store(writer, "u_subs", sides.upper.subs)?;
-    store(writer, "u_starts", sides.upper.starts)?;
-    store(writer, "u_slots", sides.upper.slots)
+// Whether every place is zero.
+pub fn is_zero(places: &[usize]) -> bool {
+    let mut i = 0;
+    while i < places.len() {
+        if places[i] != 0 {
+            return false;
+        }
+        i += 1;
+    }
+    true
 }
 
-// The line on the work stores: whether all of them are zero throughout.
-pub fn work<W: Write>(writer: &mut W, work: &Work) -> io::Result<()> {
-    let chains = all_zero(work.row_heads) && all_zero(work.row_links);
-    let sets = all_zero(work.set_heads) && all_zero(work.set_links);
-    let lists = all_zero(work.list) && all_zero(work.spare);
-    let said = if chains && sets && lists {
-        "zero"
+// The line on the work stores.
+pub fn work<W: Write>(writer: &mut W, zero: bool) -> io::Result<()> {
+    if zero {
+        writer.write_all(b"work zero\n")
     } else {
-        "DIRTY"
-    };
-    writeln!(writer, "work {said}")
+        writer.write_all(b"work DIRTY\n")
+    }
 }

@@ -1,0 +1,6 @@
+-- `main` is safe and ends: the measure is the number of turns that are left.
+use Rattle.std.proofs.Common.{}
+use Rattle.cases_elimination.proofs.main.Given as goal
+
+abbrev pub decreases-loop-turns : goal.decreases-loop-turns
+decreases-loop-turns l = l.turns

@@ -1,0 +1,6 @@
+-- `show::store` is safe and ends: the measure is what is left of the store.
+use Rattle.std.proofs.Common.{◌-◌, length}
+use Rattle.cases_planning.proofs.show.store.Given as goal
+
+abbrev pub decreases-loop-i : goal.decreases-loop-i
+decreases-loop-i g l = length l.places - l.i
