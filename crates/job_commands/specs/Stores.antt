@@ -13,6 +13,16 @@ pub record JobStores : Type 0 where
 abbrev pub stores_of : (starts columns : List ℕ) (values right : List Float) (rows : List ℕ) → JobStores
 stores_of starts columns values right rows = record { starts = starts; columns = columns; values = values; right = right; rows = rows }
 
+-- the stores with others for entries, for a row's end, for P
+abbrev pub with_entries : JobStores → List ℕ → List Float → JobStores
+with_entries s columns values = stores_of s.starts columns values s.right s.rows
+
+abbrev pub with_ends : JobStores → List ℕ → List Float → JobStores
+with_ends s starts right = stores_of starts s.columns s.values right s.rows
+
+abbrev pub with_rows : JobStores → List ℕ → JobStores
+with_rows s rows = stores_of s.starts s.columns s.values s.right rows
+
 -- what stands in stores that are lent
 abbrev pub lists_in : LentStores → JobStores
 lists_in s = stores_of s.starts.now s.columns.now s.values.now s.right.now s.rows.now

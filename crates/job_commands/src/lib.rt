@@ -1,9 +1,11 @@
-// What each command of a job does, and how far reading has come. A command is given its operands and all that follows them, and writes its own stores only.
+// What each command of a job does, and how far reading has come. A command is given its operands and all that follows them; a function touches its own
+// stores only, and its contract holds whatever the others are.
 #![tactic(auto)]
 
 ghost use Rattle.std.specs.Prelude.{◌≡◌, [], ◌∷◌, ◌+◌, ◌*◌, ◌<◌, ◌≤◌, length, take};
-ghost use Rattle.foundation.specs.Job.{nothing_read, read_n, read_r, read_e, read_b, read_p, read_z, max_job_bytes};
-ghost use Rattle.job_commands.specs.Stores.{JobStores, lists_in, SameStores};
+ghost use Rattle.foundation.specs.Job.{nothing_read, read_n, read_r, read_e, read_b, read_p, read_z, max_job_bytes, max_job_n};
+ghost use Rattle.job_sizes.specs.Sizes.{job_entries, more_than_n};
+ghost use Rattle.job_commands.specs.Stores.{JobStores, with_entries, with_ends, with_rows};
 ghost use Rattle.job_commands.specs.Progress.{state, going_on, ending, NoLonger};
 
 mod progress;
@@ -64,17 +66,22 @@ pub fn read_r<'a>(mut p: Progress<'a>) -> Result<Progress<'a>, JobRefusal>
 }
 
 // E, a column and a value.
-pub fn read_e<'a>(mut p: Progress<'a>, stores: &mut LentStores) -> Result<Progress<'a>, JobRefusal>
+pub fn read_e<'a>(
+    mut p: Progress<'a>,
+    columns: &mut [usize],
+    values: &mut [f64],
+) -> Result<Progress<'a>, JobRefusal>
     requires row_left { p.closed < p.n }
     requires byte_used { 11 * p.entries + length p.bytes.now < max_job_bytes }
-    ensures value { going_on result (lists_in stores.new) ≡ read_e (state p.entry (lists_in stores.old)) p.entry.bytes.now }
-    ensures same { SameStores stores.old stores.new }
+    requires room { (job_entries ≤ length columns.old) × (job_entries ≤ length values.old) }
+    ensures value { (s : JobStores) → going_on result (with_entries s columns.new values.new)
+        ≡ read_e (state p.entry (with_entries s columns.old values.old)) p.entry.bytes.now }
     ensures shorter { NoLonger p.entry result }
 {
     let (column, rest) = split_u16(p.bytes).ok_or(JobRefusal::CutShort)?;
     let (value, rest) = split_f64(rest).ok_or(JobRefusal::CutShort)?;
-    stores.columns[p.entries] = column;
-    stores.values[p.entries] = value;
+    columns[p.entries] = column;
+    values[p.entries] = value;
     p.bytes = rest;
     p.entries += 1;
     p.opened = true;
@@ -82,30 +89,35 @@ pub fn read_e<'a>(mut p: Progress<'a>, stores: &mut LentStores) -> Result<Progre
 }
 
 // B and a right side: the row is closed.
-pub fn read_b<'a>(mut p: Progress<'a>, stores: &mut LentStores) -> Result<Progress<'a>, JobRefusal>
-    requires { p.closed < p.n }
-    ensures value { going_on result (lists_in stores.new) ≡ read_b (state p.entry (lists_in stores.old)) p.entry.bytes.now }
-    ensures same { SameStores stores.old stores.new }
+pub fn read_b<'a>(
+    mut p: Progress<'a>,
+    starts: &mut [usize],
+    right: &mut [f64],
+) -> Result<Progress<'a>, JobRefusal>
+    requires row_left { p.closed < p.n }
+    requires room { (more_than_n ≤ length starts.old) × (max_job_n ≤ length right.old) }
+    ensures value { (s : JobStores) → p.entry.entries ≤ length s.columns → going_on result (with_ends s starts.new right.new)
+        ≡ read_b (state p.entry (with_ends s starts.old right.old)) p.entry.bytes.now }
     ensures shorter { NoLonger p.entry result }
 {
     let (side, rest) = split_f64(p.bytes).ok_or(JobRefusal::CutShort)?;
-    stores.right[p.closed] = side;
-    p.closed += 1;
-    stores.starts[p.closed] = p.entries;
+    starts[p.closed + 1] = p.entries;
+    right[p.closed] = side;
     p.bytes = rest;
+    p.closed += 1;
     p.opened = false;
     Ok(p)
 }
 
 // P and a row.
-pub fn read_p<'a>(mut p: Progress<'a>, stores: &mut LentStores) -> Result<Progress<'a>, JobRefusal>
-    requires { p.chosen < p.n }
-    ensures value { going_on result (lists_in stores.new) ≡ read_p (state p.entry (lists_in stores.old)) p.entry.bytes.now }
-    ensures same { SameStores stores.old stores.new }
+pub fn read_p<'a>(mut p: Progress<'a>, rows: &mut [usize]) -> Result<Progress<'a>, JobRefusal>
+    requires row_left { p.chosen < p.n }
+    requires room { max_job_n ≤ length rows.old }
+    ensures value { (s : JobStores) → going_on result (with_rows s rows.new) ≡ read_p (state p.entry (with_rows s rows.old)) p.entry.bytes.now }
     ensures shorter { NoLonger p.entry result }
 {
     let (row, rest) = split_u16(p.bytes).ok_or(JobRefusal::CutShort)?;
-    stores.rows[p.chosen] = row;
+    rows[p.chosen] = row;
     p.bytes = rest;
     p.chosen += 1;
     p.opened = false;

@@ -58,10 +58,10 @@ fn read_command<'a>(
 {
     match (stage_of(p), byte) {
         (Stage::First, b'N') => read_n(p).map(Some),
-        (Stage::InRow, b'E') => read_e(p, stores).map(Some),
-        (Stage::InRow, b'B') => read_b(p, stores).map(Some),
+        (Stage::InRow, b'E') => read_e(p, stores.columns, stores.values).map(Some),
+        (Stage::InRow, b'B') => read_b(p, stores.starts, stores.right).map(Some),
         (Stage::BetweenRows, b'R') => read_r(p).map(Some),
-        (Stage::AfterRows, b'P') if p.chosen < p.n => read_p(p, stores).map(Some),
+        (Stage::AfterRows, b'P') if p.chosen < p.n => read_p(p, stores.rows).map(Some),
         (Stage::AfterRows, b'Z') if named_none_or_all(p) => read_z(p).map(|()| None),
         _ => Err(JobRefusal::Misplaced),
     }

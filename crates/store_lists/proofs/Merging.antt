@@ -1,6 +1,6 @@
 -- Laws of a merge in place: a turn writes one number, and moves on in one list or in both.
 use mathlib.Core.Path.{◌≡◌, refl, sym, ap, ◌∙◌}
-use mathlib.Core.List.{List, [], ◌∷◌}
+use mathlib.Core.List.{List, [], ◌∷◌, ◌++◌}
 use Prim.Native.Nat.{ℕ, ◌+◌, ◌-◌, ◌≤◌, ◌<◌}
 use native.Mathlib.Nat.{add-zero}
 use native.Mathlib.Numerals.{add-one}
@@ -8,6 +8,8 @@ use native.Mathlib.Omega.{arith}
 use lib.ListN.{length, take, drop, get_or, set, length-drop, length-set, drop_of_length-le}
 use lib.Seq.{drop-cons, get_or-drop, drop-set-lt, take-suc-set, append_snoc, length-take-le, take_all}
 use Rattle.std.specs.List.{copy_within}
+use Rattle.std.proofs.Math.Seq.{take-append_seam}
+use Rattle.std.proofs.lemmas.List.{length-append}
 use Rattle.std.proofs.lemmas.List.Edits.{length-paste, take-paste}
 use Rattle.lists.specs.Sets.{union}
 use Rattle.lists.proofs.Members.{union-length, union_less, union_more, union_equal, union-nil_left, union-nil_right}
@@ -66,6 +68,30 @@ module _ (read written y : ℕ) (store whole later : List ℕ) (m : Merging read
       (λ some. simp (get_or-drop, add-zero) (above (omega (arith, length-drop read store)))) in
       let more : length (union (drop read store) (y ∷ later)) ≡ length (y ∷ union (drop read store) later) = ap length next in
       merge-turn read written store whole (y ∷ later) m _ _ _ (omega (arith, m.inside, m.room, union-length (drop read store) later, length-drop read store)) m.inside next
+
+-- what is left of a list behind its first members, as the code hands it on
+pub left_is : (l : List ℕ) (at : ℕ) → take (length l - at) (drop at l) ≡ drop at l
+left_is l at = take_all (length l - at) (drop at l) (omega (arith, length-drop at l))
+
+-- The first list is passed whole.
+module _ (read written : ℕ) (store whole later : List ℕ) (m : Merging read written store whole later) (passed : length store ≤ read) where
+  -- what is still to come is what is left of the second
+  to_come : union (drop read store) later ≡ later
+  to_come = rw (drop_of_length-le store passed) (union-nil_left later)
+
+  -- and has room behind what is written
+  pub later_fits : written + length later ≤ length store
+  later_fits = rw to_come at m.room
+
+  -- appended there, it ends the union
+  pub merge_appended : (end : ℕ) (now : List ℕ) → (end ≡ written + length later) × (now ≡ take written store ++ later ++ drop (written + length later) store)
+      → (end ≡ length whole) × (take end now ≡ whole)
+  merge_appended end now (count, laid) =
+      let front : length (take written store) ≡ written = length-take-le written store (omega (arith, later_fits)) in
+      let size : end ≡ length (take written store ++ later) = rw (count, length-append, front) refl in
+      let ends : take written store ++ later ≡ whole = rw to_come at m.same in
+      let all : take end now ≡ whole = rw (size, laid) (take-append_seam (take written store ++ later) (drop (written + length later) store) ∙ ends) in
+      (size ∙ ap length ends, all)
 
 -- The second list is passed whole.
 module _ (read written place : ℕ) (store whole more : List ℕ) (m : Merging read written store whole (drop place more)) (passed : length more ≤ place) where

@@ -19,21 +19,28 @@ fn write_next(store: &mut [usize], from: Merged, y: usize) -> Merged
 {
     let mut read = from.read;
     let mut written = from.written;
-    while read < store.len() && store[read] < y {
-        store[written] = store[read];
+    while read < store.len() {
+        let x = store[read];
+        if y <= x {
+            store[written] = y;
+            return Merged {
+                read: read + usize::from(x == y),
+                written: written + 1,
+            };
+        }
+        store[written] = x;
         read += 1;
         written += 1;
     }
-    let common = read < store.len() && store[read] == y;
     store[written] = y;
     Merged {
-        read: read + usize::from(common),
+        read,
         written: written + 1,
     }
 }
 
 // The union of the list at the front of a store, `count` numbers long, and another list, in place; how many members it has. The list is moved to
-// the end first, and the merge writes the front; then what is left of it is moved down.
+// the end first, and the merge writes the front; then what is left of it is moved down, or what is left of the other is appended in one piece.
 pub fn merge_in(count: usize, more: &[usize], store: &mut [usize]) -> usize
     requires { (count ≤ length store.old) × (length (union (take count store.old) more.now) ≤ length store.old) }
     ensures { (result ≡ length (union (take count store.old) more.now)) × (take result store.new ≡ union (take count store.old) more.now) }
@@ -44,7 +51,10 @@ pub fn merge_in(count: usize, more: &[usize], store: &mut [usize]) -> usize
         read: from,
         written: 0,
     };
-    for y in more {
+    for (at, y) in more.iter().enumerate() {
+        if store.len() <= merged.read {
+            return append(&more[at..], store, merged.written);
+        }
         merged = write_next(store, merged, *y);
     }
     store.copy_within(merged.read.., merged.written);

@@ -13,12 +13,12 @@ returns-in-First-eq78-clause-value c =
 pub returns-in-InRow-eq69-clause-value : goal.returns-in-InRow-eq69-clause-value
 returns-in-InRow-eq69-clause-value c =
     let at = c.in-InRow-eq69 in
-    turn-on c.args.p _ c.read_e.result _ (search rules) ∙ c.read_e.ensures.value ∙ sym (at_e c.args.p (lists_in c.args.stores.now) _ _ at.ensures.0 at.ensures.1 at.is-1)
+    turn-on c.args.p _ c.read_e.result _ (search rules) ∙ c.read_e.ensures.value (lists_in c.args.stores.now) ∙ sym (at_e c.args.p (lists_in c.args.stores.now) _ _ at.ensures.0 at.ensures.1 at.is-1)
 
 pub returns-in-InRow-eq66-clause-value : goal.returns-in-InRow-eq66-clause-value
 returns-in-InRow-eq66-clause-value c =
     let at = c.in-InRow-eq66 in
-    turn-on c.args.p _ c.read_b.result _ (search rules) ∙ c.read_b.ensures.value ∙ sym (at_b c.args.p (lists_in c.args.stores.now) _ _ at.ensures.0 at.ensures.1 at.is-1)
+    turn-on c.args.p _ c.read_b.result _ (search rules) ∙ c.read_b.ensures.value (lists_in c.args.stores.now) (omega arith) ∙ sym (at_b c.args.p (lists_in c.args.stores.now) _ _ at.ensures.0 at.ensures.1 at.is-1)
 
 pub returns-in-BetweenRows-eq82-clause-value : goal.returns-in-BetweenRows-eq82-clause-value
 returns-in-BetweenRows-eq82-clause-value c =
@@ -30,7 +30,7 @@ returns-in-BetweenRows-eq82-clause-value c =
 pub returns-in-AfterRows-eq80-clause-value : goal.returns-in-AfterRows-eq80-clause-value
 returns-in-AfterRows-eq80-clause-value c =
     let at = c.in-AfterRows-eq80 in
-    turn-on c.args.p _ c.read_p.result _ (search rules) ∙ c.read_p.ensures.value
+    turn-on c.args.p _ c.read_p.result _ (search rules) ∙ c.read_p.ensures.value (lists_in c.args.stores.now)
     ∙ sym (at_p c.args.p (lists_in c.args.stores.now) _ _ at.ensures.0 at.ensures.1 at.ensures.2 (omega arith) (omega arith) at.is-1 (search rules))
 
 pub returns-in-AfterRows-eq90-clause-value : goal.returns-in-AfterRows-eq90-clause-value

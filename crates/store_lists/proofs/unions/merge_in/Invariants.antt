@@ -4,5 +4,5 @@ use Rattle.lists.specs.Sets.{union}
 use Rattle.store_lists.specs.Merging.{Merging}
 use Rattle.store_lists.proofs.unions.merge_in.Given as goal
 
-abbrev pub invariant-loop-y : goal.invariant-loop-y
-invariant-loop-y l = Merging l.merged.read l.merged.written l.store (union (take l.count l.fn.store) l.more) (drop l.y-index l.more)
+abbrev pub invariant-loop-at : goal.invariant-loop-at
+invariant-loop-at l = Merging l.merged.read l.merged.written l.store (union (take l.count l.fn.store) l.more) (drop l.at l.more)
