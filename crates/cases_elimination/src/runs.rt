@@ -5,6 +5,7 @@ use answers::{Extent, PivotChoice, PlanCounts, RunAnswer};
 use numbers::{counts_from, extent_from};
 use std::io;
 use std::io::Write;
+use streams::all_zero;
 
 const SLOTS: usize = 66_000;
 
@@ -120,11 +121,11 @@ fn show_results<W: Write>(
 
 // Whether the first places of a store, as many as a head word asks for, are zero.
 fn zero(store: &[usize], head: &[usize; HEAD], at: usize) -> bool {
-    show::is_zero(request::front(store, head, at))
+    all_zero(request::front(store, head, at))
 }
 
 fn plus_zero(store: &[f64], head: &[usize; HEAD], at: usize) -> bool {
-    show::is_plus_zero(request::front_numbers(store, head, at))
+    all_zero(request::front_numbers(store, head, at))
 }
 
 // Whether the eight work stores are zero throughout.

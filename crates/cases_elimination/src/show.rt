@@ -143,30 +143,6 @@ pub fn ran<W: Write>(writer: &mut W, answer: RunAnswer) -> io::Result<()> {
     }
 }
 
-// Whether every place is zero.
-pub fn is_zero(places: &[usize]) -> bool {
-    let mut i = 0;
-    while i < places.len() {
-        if places[i] != 0 {
-            return false;
-        }
-        i += 1;
-    }
-    true
-}
-
-// Whether every place is +0.
-pub fn is_plus_zero(places: &[f64]) -> bool {
-    let mut i = 0;
-    while i < places.len() {
-        if bits(places[i]) != 0 {
-            return false;
-        }
-        i += 1;
-    }
-    true
-}
-
 // The line on the work stores.
 pub fn work<W: Write>(writer: &mut W, zero: bool) -> io::Result<()> {
     if zero {

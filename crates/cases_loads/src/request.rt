@@ -3,10 +3,13 @@ use crate::show;
 use crate::show::Shown;
 use answers::LoadAnswer;
 use std::io::{Read, Write};
-use streams::{Decimal, FromBytes, Halt, Hexadecimal, fill};
+use streams::{Decimal, FromBytes, Halt, Hexadecimal, read_part, read_request};
 
 // The numbers of a request: seed, n, d, the lengths of row starts, columns, values and right sides.
 const NUMBERS: usize = 7;
+
+// The bytes of a request.
+const WHOLE: usize = 1 + 8 * NUMBERS;
 
 // The longest stores that can be asked for: each longer than any load needs.
 const ROWS: usize = 1_026;
@@ -58,8 +61,11 @@ fn load<W: Write>(writer: &mut W, shown: Shown, numbers: [usize; NUMBERS]) -> Re
 
 // Answers the next request.
 pub fn serve<R: Read, W: Write>(reader: &mut R, writer: &mut W) -> Result<(), Halt> {
-    let kind = u8::read(reader)?.ok_or(Halt::Ended)?;
+    let mut request = [0u8; WHOLE];
+    read_request(reader, &mut request)?;
+    let mut left = &request[..];
+    let kind = u8::read(&mut left)?.ok_or(Halt::Bad)?;
     let mut numbers = [0usize; NUMBERS];
-    fill::<R, usize, usize>(reader, &mut numbers)?.ok_or(Halt::Bad)?;
+    read_part::<&[u8], usize, usize>(&mut left, &mut numbers, NUMBERS)?;
     load(writer, Shown::try_from(kind)?, numbers)
 }

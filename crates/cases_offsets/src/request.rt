@@ -1,7 +1,7 @@
 // One request: its bytes, the call and what is shown of it.
 use crate::show;
 use std::io::{Read, Write};
-use streams::{FromBytes, Halt, read_part};
+use streams::{FromBytes, Halt, read_text};
 
 // The longest text and the longest store that can be asked for: past the 14 bytes of an offset.
 const LONGEST: usize = 32;
@@ -19,7 +19,7 @@ fn serve_read<R: Read, W: Write>(
 ) -> Result<(), Halt> {
     let length = length(reader)?;
     let mut store = [0u8; LONGEST];
-    let text = read_part::<R, u8, u8>(reader, &mut store, length)?;
+    let text = read_text(reader, &mut store, length)?;
     show::read(writer, number, offsets::read(text))?;
     Ok(())
 }

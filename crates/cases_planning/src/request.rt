@@ -5,6 +5,7 @@
 use crate::{show, words};
 use std::io;
 use std::io::{Read, Write};
+use streams::all_zero;
 
 // The longest parts that can be asked for: each one place past what a pattern of 1,025 columns, of 2,049 rows or of 16,385 entries needs, or more.
 const HEAD: usize = 17;
@@ -90,7 +91,7 @@ fn show_results<W: Write>(
 
 // Whether the first places of a store, as many as a head word asks for, are zero.
 fn zero(store: &[usize], head: &[usize; HEAD], at: usize) -> bool {
-    show::is_zero(part(store, head, at))
+    all_zero(part(store, head, at))
 }
 
 // Shows whether all six work stores are zero throughout.

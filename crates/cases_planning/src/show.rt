@@ -49,18 +49,6 @@ pub fn answer<W: Write>(writer: &mut W, answer: PlanAnswer) -> io::Result<()> {
     }
 }
 
-// Whether every place is zero.
-pub fn is_zero(places: &[usize]) -> bool {
-    let mut i = 0;
-    while i < places.len() {
-        if places[i] != 0 {
-            return false;
-        }
-        i += 1;
-    }
-    true
-}
-
 // The line on the work stores.
 pub fn work<W: Write>(writer: &mut W, zero: bool) -> io::Result<()> {
     if zero {

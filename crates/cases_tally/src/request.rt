@@ -1,7 +1,7 @@
 // One request: its bytes, the call and what is shown of it.
 use crate::show;
 use std::io::{Read, Write};
-use streams::{FromBytes, Halt};
+use streams::{FromBytes, Halt, read_request};
 use tally::Tally;
 
 enum Request {
@@ -11,11 +11,17 @@ enum Request {
     Add { member: usize, updates: usize },
 }
 
+// The bytes of a request.
+const WHOLE: usize = 17;
+
 // The next request.
 fn next<R: Read>(reader: &mut R) -> Result<Request, Halt> {
-    let kind = u8::read(reader)?.ok_or(Halt::Ended)?;
-    let member = usize::read(reader)?.ok_or(Halt::Bad)?;
-    let updates = usize::read(reader)?.ok_or(Halt::Bad)?;
+    let mut request = [0u8; WHOLE];
+    read_request(reader, &mut request)?;
+    let mut left = &request[..];
+    let kind = u8::read(&mut left)?.ok_or(Halt::Bad)?;
+    let member = usize::read(&mut left)?.ok_or(Halt::Bad)?;
+    let updates = usize::read(&mut left)?.ok_or(Halt::Bad)?;
     match kind {
         b'Z' => Ok(Request::Fresh),
         b'A' => Ok(Request::Add { member, updates }),

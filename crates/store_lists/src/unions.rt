@@ -61,12 +61,13 @@ pub fn merge_in(count: usize, more: &[usize], store: &mut [usize]) -> usize
     merged.written + (store.len() - merged.read)
 }
 
-// A list is written into a store from a place on. The place after it is returned.
+// A list is written into a store from a place on. The place after it is returned. `copy_from_slice` is plainer, and the archive for C would need `memmove` for it.
 pub fn append(list: &[usize], out: &mut [usize], at: usize) -> usize
     requires { at + length list.now ≤ length out.old }
     ensures { (result ≡ at + length list.now) × (out.new ≡ take at out.old ++ list.now ++ drop (at + length list.now) out.old) }
 {
-    let end = at + list.len();
-    out[at..end].copy_from_slice(list);
-    end
+    for (i, x) in list.iter().enumerate() {
+        out[at + i] = *x;
+    }
+    at + list.len()
 }

@@ -12,7 +12,7 @@ mod values;
 
 pub use digits::{Decimal, Digits, Hexadecimal};
 pub use halts::{Halt, finish};
-pub use input::read_full;
+pub use input::{read_full, read_request, read_text};
 pub use output::{write_decimal, write_hex};
 pub use places::{Bits, all_zero, write_places};
 pub use sums::checksum_with;

@@ -1,6 +1,0 @@
--- `show::is_zero` is safe and ends: the measure is what is left of the store.
-use Rattle.std.proofs.Common.{◌-◌, length}
-use Rattle.cases_elimination.proofs.show.is_zero.Given as goal
-
-abbrev pub decreases-loop-i : goal.decreases-loop-i
-decreases-loop-i l = length l.places - l.i
