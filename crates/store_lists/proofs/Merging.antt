@@ -69,28 +69,28 @@ module _ (read written y : ℕ) (store whole later : List ℕ) (m : Merging read
       let more : length (union (drop read store) (y ∷ later)) ≡ length (y ∷ union (drop read store) later) = ap length next in
       merge-turn read written store whole (y ∷ later) m _ _ _ (omega (arith, m.inside, m.room, union-length (drop read store) later, length-drop read store)) m.inside next
 
--- what is left of a list behind its first members, as the code hands it on
-pub left_is : (l : List ℕ) (at : ℕ) → take (length l - at) (drop at l) ≡ drop at l
-left_is l at = take_all (length l - at) (drop at l) (omega (arith, length-drop at l))
-
 -- The first list is passed whole.
-module _ (read written : ℕ) (store whole later : List ℕ) (m : Merging read written store whole later) (passed : length store ≤ read) where
-  -- what is still to come is what is left of the second
-  to_come : union (drop read store) later ≡ later
-  to_come = rw (drop_of_length-le store passed) (union-nil_left later)
+module _ (read written at : ℕ) (store whole more : List ℕ) (m : Merging read written store whole (drop at more)) (passed : length store ≤ read) where
+  -- what is left of the second, as the code hands it on
+  abbrev left : List ℕ
+  left = take (length more - at) (drop at more)
+
+  -- is still to come
+  to_come : union (drop read store) (drop at more) ≡ left
+  to_come = rw (drop_of_length-le store passed) (union-nil_left (drop at more) ∙ sym (take_all (length more - at) (drop at more) (omega (arith, length-drop at more))))
 
   -- and has room behind what is written
-  pub later_fits : written + length later ≤ length store
-  later_fits = rw to_come at m.room
+  pub left_fits : written + length left ≤ length store
+  left_fits = rw to_come at m.room
 
   -- appended there, it ends the union
-  pub merge_appended : (end : ℕ) (now : List ℕ) → (end ≡ written + length later) × (now ≡ take written store ++ later ++ drop (written + length later) store)
+  pub merge_appended : (end : ℕ) (now : List ℕ) → (end ≡ written + length left) × (now ≡ take written store ++ left ++ drop (written + length left) store)
       → (end ≡ length whole) × (take end now ≡ whole)
   merge_appended end now (count, laid) =
-      let front : length (take written store) ≡ written = length-take-le written store (omega (arith, later_fits)) in
-      let size : end ≡ length (take written store ++ later) = rw (count, length-append, front) refl in
-      let ends : take written store ++ later ≡ whole = rw to_come at m.same in
-      let all : take end now ≡ whole = rw (size, laid) (take-append_seam (take written store ++ later) (drop (written + length later) store) ∙ ends) in
+      let front : length (take written store) ≡ written = length-take-le written store (omega (arith, left_fits)) in
+      let size : end ≡ length (take written store ++ left) = rw (count, length-append, front) refl in
+      let ends : take written store ++ left ≡ whole = rw to_come at m.same in
+      let all : take end now ≡ whole = rw (size, laid) (take-append_seam (take written store ++ left) (drop (written + length left) store) ∙ ends) in
       (size ∙ ap length ends, all)
 
 -- The second list is passed whole.
