@@ -5,6 +5,7 @@
 //
 // A request is a byte and two numbers of eight bytes, low byte first. "Z" asks for a record made with zeros, whatever the numbers are; "A" asks for a call with the
 // record: the first number is the member's, the second one the updates.
+mod lending;
 mod request;
 mod show;
 

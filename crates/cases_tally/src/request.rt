@@ -1,5 +1,5 @@
 // One request: its bytes, the call and what is shown of it.
-use crate::show;
+use crate::{lending, show};
 use std::io::{Read, Write};
 use streams::{FromBytes, Halt, read_request};
 use tally::Tally;
@@ -41,7 +41,7 @@ pub fn serve<R: Read, W: Write>(
             show::fresh(writer, record)?;
         }
         Request::Add { member, updates } => {
-            let answer = tally::add(record, member, updates);
+            let answer = lending::added(record, member, updates);
             show::added(writer, member, updates, answer, record)?;
         }
     }
